@@ -1,0 +1,5 @@
+pub mod Field
+pub mod Place
+pub mod Rising
+pub mod Logic
+pub mod Determined

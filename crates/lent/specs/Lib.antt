@@ -1,0 +1,4 @@
+pub mod Le
+pub mod Paper
+pub mod Table
+pub mod Order

@@ -1,0 +1,181 @@
+/* Gillacorn: address translation that is proved.
+ *
+ * Every answer begins with `code`: 0, a value is given; 1 to 6, the refusal of that number;
+ * 255, none. Where no value is given the other fields are 0, unless the function says otherwise.
+ * A table is lent as a pointer and a length in bytes; the pointer is never null, also where the
+ * length is 0, and no alignment is asked. A table with a mark `has_..` or `present` is read only
+ * where the mark is true. A refused call writes nothing.
+ *
+ *   1  a table's length is no multiple of its record
+ *   2  it has more records than allowed
+ *   3  a question that needs order meets a source (or code start) not greater than the one before
+ *   4  a sum or product exceeds 4,294,967,295
+ *   5  the result has more entries than the lent output holds; the needed number is told
+ *   6  a cursor would translate a mapped piece that begins before its record's source
+ */
+#ifndef GILLACORN_H
+#define GILLACORN_H
+
+#include <stdbool.h>
+#include <stddef.h>
+#include <stdint.h>
+
+#ifdef __cplusplus
+extern "C" {
+#endif
+
+#define GILLACORN_VALUE 0u
+#define GILLACORN_NONE 255u
+
+typedef struct { uint32_t code; uint32_t value; } gillacorn_value;
+
+/* ---- section headers (pe) ---- */
+
+typedef struct {
+    uint8_t name[8];
+    uint32_t virtual_size, virtual_address, size_of_raw_data, pointer_to_raw_data;
+    uint32_t pointer_to_relocations, pointer_to_line_numbers;
+    uint16_t number_of_relocations, number_of_line_numbers;
+    uint32_t characteristics;
+} gillacorn_section_header;
+
+typedef struct { uint32_t code; gillacorn_section_header header; } gillacorn_header_answer;
+
+/* The header at a place from 0. None past the last; 1 or 2 for a bad table. */
+gillacorn_header_answer gillacorn_header(const uint8_t *table, size_t length, size_t place);
+
+/* How many bytes of the name of section `number`, from 1, count: the name is the first that many
+ * bytes of its header. 0 for a missing section, a name that is not UTF-8 and a bad table. */
+size_t gillacorn_name_length(const uint8_t *table, size_t length, uint16_t number);
+
+typedef struct {
+    bool executable, initialized_data, uninitialized_data, other, info, remove, comdat;
+    bool defer_speculative_exceptions, global_pointer_relative, purgeable, locked, preload;
+    bool lnk_nreloc_ovfl, discardable, not_cached, not_paged, shared, execute, read, write;
+} gillacorn_flags;
+
+/* What the characteristics of a section say. */
+gillacorn_flags gillacorn_characteristics(uint32_t characteristics);
+
+/* The alignment that the characteristics give, or none. */
+gillacorn_value gillacorn_alignment(uint32_t characteristics);
+
+/* ---- OMAP tables ---- */
+
+typedef struct { uint32_t code; uint32_t source, target; } gillacorn_record;
+typedef struct { uint32_t code; size_t pieces; } gillacorn_pieces;
+typedef struct { uint32_t address, end, source, target; size_t place; } gillacorn_cursor;
+typedef struct { uint32_t code; gillacorn_cursor cursor; } gillacorn_started;
+typedef struct { uint32_t code; uint32_t start, end; gillacorn_cursor cursor; } gillacorn_step;
+
+/* The record at a place from 0. None past the last; 1 or 2 for a bad table. */
+gillacorn_record gillacorn_record_at(const uint8_t *table, size_t length, size_t place);
+
+/* The single translation of an address: 1, 2, 3, none, or 4. With no table, the address itself. */
+gillacorn_value gillacorn_lookup(bool present, const uint8_t *table, size_t length, uint32_t address);
+
+/* The pieces of the window a..b, as pairs of start and excluded end in `out`; refusals 1, 2, 3, 4,
+ * then 5. `pieces` is their number, also with code 5, where it is the number needed. */
+gillacorn_pieces gillacorn_lookup_range(bool present, const uint8_t *table, size_t length,
+                                        uint32_t a, uint32_t b, uint32_t *out, size_t places);
+
+/* A cursor over the pieces of a..b: 1, 2, 3, or the cursor. */
+gillacorn_started gillacorn_cursor_start(bool present, const uint8_t *table, size_t length,
+                                         uint32_t a, uint32_t b);
+
+/* The next piece and the next cursor; none and the cursor left behind; or 1, 2, 6, 4 and the
+ * cursor unchanged. Any table, in order or not. */
+gillacorn_step gillacorn_cursor_step(gillacorn_cursor cursor, bool present, const uint8_t *table,
+                                     size_t length);
+
+typedef struct { uint32_t start, end; } gillacorn_piece;
+
+/* As gillacorn_lookup_range, into a list of records. */
+gillacorn_pieces gillacorn_list(bool present, const uint8_t *table, size_t length, uint32_t a,
+                                uint32_t b, gillacorn_piece *list, size_t records);
+
+/* ---- clash and way back ---- */
+
+typedef struct { uint32_t code; uint32_t first, second; } gillacorn_pair;
+typedef struct { uint32_t code; uint32_t sources; uint32_t first, second; } gillacorn_sources;
+
+/* The least pair of window addresses with one translation; none where the window is single; or
+ * 1, 2, 3, 4. */
+gillacorn_pair gillacorn_clash(const uint8_t *table, size_t length, uint32_t a, uint32_t b);
+
+/* The addresses of a..b that translate to t: none, the one (`sources` 1), or the two least
+ * (`sources` 2); or 1, 2, 3, 4. */
+gillacorn_sources gillacorn_way_back(const uint8_t *table, size_t length, uint32_t a, uint32_t b,
+                                     uint32_t t);
+
+/* ---- sections and the address map ---- */
+
+typedef struct { uint32_t code; uint16_t section; uint32_t offset; } gillacorn_offset;
+
+/* The section, from 1, and the offset in it of an address; none; or 1, 2. */
+gillacorn_offset gillacorn_section_offset(const uint8_t *table, size_t length, uint32_t address);
+
+/* The address of an offset in a section; none for section 0 and past the last; or 1, 2, 4. */
+gillacorn_value gillacorn_virtual_address(const uint8_t *table, size_t length, uint16_t section,
+                                          uint32_t offset);
+
+/* The four tables of an address map, each behind its mark. */
+#define GILLACORN_MAP                                                                     \
+    bool has_original_sections, const uint8_t *original_sections, size_t original_length, \
+    bool has_transformed_sections, const uint8_t *transformed_sections, size_t transformed_length, \
+    bool has_to_original, const uint8_t *to_original, size_t to_original_length,          \
+    bool has_to_transformed, const uint8_t *to_transformed, size_t to_transformed_length
+
+gillacorn_value gillacorn_rva_to_internal_rva(uint32_t rva, GILLACORN_MAP);
+gillacorn_offset gillacorn_rva_to_section_offset(uint32_t rva, GILLACORN_MAP);
+gillacorn_offset gillacorn_rva_to_internal_offset(uint32_t rva, GILLACORN_MAP);
+gillacorn_value gillacorn_internal_rva_to_rva(uint32_t rva, GILLACORN_MAP);
+gillacorn_offset gillacorn_internal_rva_to_section_offset(uint32_t rva, GILLACORN_MAP);
+gillacorn_offset gillacorn_internal_rva_to_internal_offset(uint32_t rva, GILLACORN_MAP);
+gillacorn_value gillacorn_offset_to_rva(uint16_t section, uint32_t offset, GILLACORN_MAP);
+gillacorn_value gillacorn_offset_to_internal_rva(uint16_t section, uint32_t offset, GILLACORN_MAP);
+gillacorn_offset gillacorn_offset_to_internal_offset(uint16_t section, uint32_t offset, GILLACORN_MAP);
+gillacorn_value gillacorn_internal_offset_to_rva(uint16_t section, uint32_t offset, GILLACORN_MAP);
+gillacorn_value gillacorn_internal_offset_to_internal_rva(uint16_t section, uint32_t offset, GILLACORN_MAP);
+gillacorn_offset gillacorn_internal_offset_to_section_offset(uint16_t section, uint32_t offset, GILLACORN_MAP);
+
+/* ---- frames ---- */
+
+/* ty: 0 FPO, 1 Trap, 2 TSS, 3 Standard, 4 FrameData. max_stack_size and program count only where
+ * their mark is true. */
+typedef struct {
+    uint32_t ty, code_start, code_size, locals_size, params_size;
+    uint16_t prolog_size, saved_regs_size;
+    bool has_structured_eh, has_cpp_eh, is_function_start, uses_base_pointer;
+    bool has_max_stack_size, has_program;
+    uint32_t max_stack_size, program;
+} gillacorn_frame;
+
+typedef struct { size_t old_index, new_index; } gillacorn_frame_cursor;
+typedef struct { uint32_t code; gillacorn_frame frame; } gillacorn_frame_answer;
+typedef struct { uint32_t code; gillacorn_frame_cursor cursor; } gillacorn_frame_started;
+typedef struct { uint32_t code; gillacorn_frame frame; gillacorn_frame_cursor cursor; } gillacorn_frame_step;
+
+#define GILLACORN_FRAMES                                              \
+    bool has_old, const uint8_t *old_frames, size_t old_length,       \
+    bool has_new, const uint8_t *new_frames, size_t new_length
+
+/* The frame at a place of one table. None past the last; 1, 2; an old frame's locals may give 4. */
+gillacorn_frame_answer gillacorn_old_frame(const uint8_t *table, size_t length, size_t place);
+gillacorn_frame_answer gillacorn_new_frame(const uint8_t *table, size_t length, size_t place);
+
+/* The next frame and the next cursor; none at the end; or 1, 2 (old, then new), 4. At the end and
+ * with a refusal the cursor is as it was. */
+gillacorn_frame_step gillacorn_frame_next(gillacorn_frame_cursor cursor, GILLACORN_FRAMES);
+
+/* The cursor that starts at an address; or 1, 2, 3 of old, then of new. */
+gillacorn_frame_started gillacorn_frames_at(uint32_t address, GILLACORN_FRAMES);
+
+/* 1 if there is no frame, else 0; or 1, 2 of old, then of new. */
+gillacorn_value gillacorn_frames_empty(GILLACORN_FRAMES);
+
+#ifdef __cplusplus
+}
+#endif
+
+#endif
