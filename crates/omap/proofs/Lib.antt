@@ -1,0 +1,5 @@
+pub mod Last
+pub mod Lookups
+pub mod Pieces
+pub mod Filling
+pub mod Outputs

@@ -1,0 +1,36 @@
+-- `omap::window::lookup_range` meets its contract: with a table or with none.
+-- Assumes nothing.
+use Prim.Native.Nat.{ℕ, _-_, _≤_, _<_}
+use mathlib.Core.Path.{_≡_, refl, sym, ap, _∙_, subst}
+use native.Mathlib.Omega.{arith}
+use denote.Ref.{now}
+use borrow.Author.Needs.{needs}
+use Rattle.omap.proofs.window.lookup_range.Statement.{statement}
+use Rattle.omap.proofs.window.lookup_range.Tie as tie
+use Rattle.omap.proofs.window.lookup_range.Reads as reads
+use Rattle.omap.proofs.window.lookup_range.Lts as lts
+use Rattle.omap.proofs.window.range_in.Reads as range-in-reads
+use Rattle.omap.proofs.window.range_of_none.Reads as range-of-none-reads
+
+range-in-requires : tie.Need-range-in-requires
+range-in-requires c κs = search needs
+
+range-of-none-requires : tie.Need-range-of-none-requires
+range-of-none-requires c κs = search needs
+
+same-length : tie.Need-same-length
+same-length c = search needs
+
+returns : tie.Need-returns
+returns c = rw (c .before .before .before .before .if1 .taken) (c .before .before .range-in .ensures)
+
+same-length-2 : tie.Need-same-length-2
+same-length-2 c = search needs
+
+returns-2 : tie.Need-returns-2
+returns-2 c = rw (c .before .before .before .before .if1 .left) (c .before .before .range-of-none .ensures (now (c .before .before .before .before .before .before .before .args .table)))
+
+pub lookup-range-spec : {M : Type 1} → statement M
+lookup-range-spec =
+    tie.close
+    (tie.spec range-in-requires range-of-none-requires same-length returns same-length-2 returns-2)

@@ -1,0 +1,7 @@
+pub mod Records
+pub mod Lookup
+pub mod Window
+pub mod Output
+pub mod Expand
+pub mod Step
+pub mod Part

@@ -1,0 +1,38 @@
+-- What `record_at` and `lookup` answer.
+use Prim.Native.Nat.{ℕ, _/_}
+use mathlib.Core.Bool.{Bool, cond}
+use mathlib.Core.List.{List}
+use mathlib.Core.Option.{Option, none, some}
+use lib.ListN.{length}
+use lib.Dec.{leb, ltb}
+use Rattle.lent.specs.Paper.{Told, value, nothing, refused, unless, number}
+use Rattle.lent.specs.Table.{omapShape}
+use Rattle.omap.specs.Records.{Entry, entryAt, records, omapFault, single}
+use Rattle.omap.specs.declared.Recorded.{Recorded}
+use Rattle.omap.specs.declared.Recorded.the-variants as recorded
+use Rattle.omap.specs.declared.Looked.{Looked}
+use Rattle.omap.specs.declared.Looked.the-variants as looked
+
+abbrev pub toldRecorded : Recorded → Told Entry
+toldRecorded (recorded.Record s t) = value (record { source = s; target = t })
+toldRecorded recorded.Nothing = nothing
+toldRecorded (recorded.Refused why) = refused (number why)
+
+-- the record at a place: 1, 2, none past the last
+unfoldable pub recordSpec : List ℕ → ℕ → Told Entry
+recordSpec s i = unless (omapShape s) (cond (ltb i (length s / 8)) (value (entryAt s i)) nothing)
+
+abbrev pub toldLooked : Looked → Told ℕ
+toldLooked (looked.At t) = value t
+toldLooked looked.Nothing = nothing
+toldLooked (looked.Refused why) = refused (number why)
+toldLooked looked.TooLarge = refused 4
+
+-- an unbounded translation: 4 if it does not fit 32 bits
+abbrev pub fitted : Option ℕ → Told ℕ
+fitted none = nothing
+fitted (some t) = cond (leb t 4294967295) (value t) (refused 4)
+
+-- the single translation: 1, 2, 3, none or 4; with no table, the address itself
+unfoldable pub lookupSpec : Bool → List ℕ → ℕ → Told ℕ
+lookupSpec present s a = cond present (unless (omapFault s) (fitted (single (records s) a))) (value a)

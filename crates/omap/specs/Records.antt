@@ -1,0 +1,52 @@
+-- The records of an OMAP table, and document 01's single translation.
+use Prim.Native.Nat.{ℕ, _+_, _-_, _*_, _/_}
+use mathlib.Core.Bool.{cond}
+use mathlib.Core.List.{List, [], _∷_, map}
+use mathlib.Core.Option.{Option, none, some}
+use lib.ListN.{length}
+use lib.Dec.{leb, eqb}
+use Rattle.lent.specs.Le.{leAt}
+use Rattle.lent.specs.Table.{listed}
+use Rattle.lent.specs.Order.{tableFault}
+
+-- OMAP record, 8 bytes: source at 0, target at 4, each 4 bytes
+pub record Entry : Type 0 where
+  pub source : ℕ
+  pub target : ℕ
+
+-- the record at place i
+abbrev pub entryAt : List ℕ → ℕ → Entry
+entryAt s i = record { source = leAt 4 s (8 * i); target = leAt 4 s (8 * i + 4) }
+
+-- the records from place i on
+abbrev pub rest : List ℕ → ℕ → List Entry
+rest s i = listed (entryAt s) i (length s / 8 - i)
+
+-- all whole records of a table
+unfoldable pub records : List ℕ → List Entry
+records s = listed (entryAt s) 0 (length s / 8)
+
+abbrev pub sources : List Entry → List ℕ
+sources l = map (λ (x : Entry). x .source) l
+
+-- the refusal that an OMAP table gives to a question that needs order: 1, then 2, then 3
+abbrev pub omapFault : List ℕ → Option ℕ
+omapFault = tableFault 8 1048576
+
+unfoldable pub orElse : {A : Type 0} → Option A → Option A → Option A
+orElse none y = y
+orElse (some x) y = some x
+
+-- the last record whose source is at most a
+unfoldable pub lastAt : ℕ → List Entry → Option Entry
+lastAt a [] = none
+lastAt a (x ∷ l) = orElse (lastAt a l) (cond (leb (x .source) a) (some x) none)
+
+-- where a record takes an address, as an unbounded number: nowhere if its target is 0
+unfoldable pub moved : ℕ → Option Entry → Option ℕ
+moved a none = none
+moved a (some e) = cond (eqb (e .target) 0) none (some (a - e .source + e .target))
+
+-- the single translation of an address, as an unbounded number
+unfoldable pub single : List Entry → ℕ → Option ℕ
+single l a = moved a (lastAt a l)

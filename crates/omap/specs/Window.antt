@@ -1,0 +1,44 @@
+-- The pieces of a window a..b, its end b excluded.
+use Prim.Native.Nat.{ℕ, _+_, _-_, max, min}
+use mathlib.Core.Bool.{Bool, cond, not, _&&_}
+use mathlib.Core.List.{List, [], _∷_}
+use mathlib.Core.Option.{Option, none, some}
+use lib.Dec.{ltb, eqb}
+use Rattle.omap.specs.Records.{Entry, records}
+
+-- a mapped piece: where it starts in the window, how many addresses it has, and where they go
+pub record Piece : Type 0 where
+  pub at : ℕ
+  pub size : ℕ
+  pub to : ℕ
+
+-- where the record before l ends: at the next source; the last one reaches to the end of 32 bits
+unfoldable pub nextOf : List Entry → ℕ
+nextOf [] = 4294967296
+nextOf (x ∷ l) = x .source
+
+-- the part inside a..b of x's addresses, which end at e: no piece if it is empty or the target is 0
+unfoldable pub pieceOf : ℕ → ℕ → Entry → ℕ → Option Piece
+pieceOf a b x e =
+    cond (ltb (max a (x .source)) (min b e) && not (eqb (x .target) 0))
+    (some (record { at = max a (x .source); size = min b e - max a (x .source); to = max a (x .source) - x .source + x .target }))
+    none
+
+-- an optional value before others
+unfoldable pub put : {A : Type 0} → Option A → List A → List A
+put none l = l
+put (some p) l = p ∷ l
+
+-- the pieces, in source order; neighbours are never joined
+unfoldable pub pieces : ℕ → ℕ → List Entry → List Piece
+pieces a b [] = []
+pieces a b (x ∷ l) = put (pieceOf a b x (nextOf l)) (pieces a b l)
+
+-- what stands in for a table marked absent, as `RangeIter::identity` has it: one record that takes a to itself,
+-- so that a..b is one piece, and none where a is 0
+abbrev pub identity : ℕ → List Entry
+identity a = record { source = a; target = a } ∷ []
+
+-- the pieces of a window of a table behind its mark
+abbrev pub windowPieces : Bool → List ℕ → ℕ → ℕ → List Piece
+windowPieces present s a b = pieces a b (cond present (records s) (identity a))
