@@ -1,4 +1,4 @@
--- The pieces of a window, written out, are the single translations of its addresses, in order.
+-- Demand 2: the pieces of a window, written out, are the single translations of its addresses, in order, holes left out.
 -- Assumes nothing.
 use mathlib.Core.Path.{_≡_, refl, sym, ap, _∙_, subst}
 use mathlib.Core.Logic.{_⊎_, inl, inr, ⊎-elim}
@@ -10,18 +10,15 @@ use mathlib.Core.List.{List, [], _∷_, _++_, append-assoc}
 use mathlib.Core.Option.{Option, none, some}
 use lib.Dec.{ltb, leb, eqb}
 use borrow.Author.Tests.{le-leb, lt-leb, ltb-true, ltb-false, eq-eqb, ne-eqb}
-use Rattle.omap.specs.Records.{Entry, risingAfter, rising, orElse, lastAt, moved, single}
+use Rattle.lent.specs.Order.{risingAfter, rising}
+use Rattle.lent.proofs.Rising.{after-rising}
+use Rattle.omap.specs.Records.{Entry, records, sources, omapFault, orElse, lastAt, moved, single}
 use Rattle.omap.specs.Window.{Piece, nextOf, pieceOf, put, pieces}
-use Rattle.omap.specs.Expand.{upFrom, range, mapMaybe, expand}
+use Rattle.omap.specs.Expand.{upFrom, range, mapMaybe, expand, total}
+use lib.ListN.{length, length-append}
+use Rattle.omap.proofs.Last.{sources-keys, in-order}
 use Rattle.lent.proofs.Logic.{lt-or-le, and-left, and-right}
 use Rattle.omap.proofs.Pieces.{piece-empty, piece-zero, piece-some}
-
-pub lt-or-le : (a b : ℕ) → (a < b) ⊎ (b ≤ a)
-lt-or-le a b = go (ltb a b) refl
-  where
-    go : (t : Bool) → ltb a b ≡ t → (a < b) ⊎ (b ≤ a)
-    go true e = inl (ltb-true a b e)
-    go false e = inr (ltb-false a b e)
 
 -- numbers from a on, in two runs
 up-split : (a m n : ℕ) → upFrom a (m + n) ≡ upFrom a m ++ upFrom (a + m) n
@@ -73,16 +70,16 @@ module _ (f : ℕ → Option ℕ) where
       rw (h a (omega arith) (omega arith), map-same g n (suc a) (λ d l m. h d (omega arith) (omega arith)))
 
 -- no record after p is at or below an address of at most p
-above-none : (p d : ℕ) (l : List Entry) → risingAfter p l ≡ true → d ≤ p → lastAt d l ≡ none
+above-none : (p d : ℕ) (l : List Entry) → risingAfter p (sources l) ≡ true → d ≤ p → lastAt d l ≡ none
 unfolding risingAfter lastAt orElse
 above-none p d [] r h = refl
 above-none p d (x ∷ l) r h =
-    let up : p < x .source = ltb-true p (x .source) (and-left (ltb p (x .source)) (risingAfter (x .source) l) r) in
-    let on : risingAfter (x .source) l ≡ true = and-right (ltb p (x .source)) (risingAfter (x .source) l) r in
+    let up : p < x .source = ltb-true p (x .source) (and-left (ltb p (x .source)) (risingAfter (x .source) (sources l)) r) in
+    let on : risingAfter (x .source) (sources l) ≡ true = and-right (ltb p (x .source)) (risingAfter (x .source) (sources l)) r in
     rw (above-none (x .source) d l on (omega arith), lt-leb (x .source) d (omega arith))
 
 -- none before the first source
-before-none : (d : ℕ) (l : List Entry) → rising l ≡ true → d < nextOf l → lastAt d l ≡ none
+before-none : (d : ℕ) (l : List Entry) → rising (sources l) ≡ true → d < nextOf l → lastAt d l ≡ none
 unfolding rising lastAt orElse nextOf
 before-none d [] r h = refl
 before-none d (x ∷ l) r h = rw (above-none (x .source) d l r (omega arith), lt-leb (x .source) d h)
@@ -97,9 +94,9 @@ after-next : (d : ℕ) (x y : Entry) (l : List Entry) → y .source ≤ d → la
 unfolding lastAt
 after-next d x y l h = rw (le-leb (y .source) d h) (or-some (lastAt d l) y (cond (leb (x .source) d) (some x) none))
 
-module _ (x : Entry) (l : List Entry) (r : risingAfter (x .source) l ≡ true) where
+module _ (x : Entry) (l : List Entry) (r : risingAfter (x .source) (sources l) ≡ true) where
   next-above : (d : ℕ) → d < nextOf l → lastAt d l ≡ none
-  next-above d h = before-none d l (after-rising (x .source) l r) h
+  next-above d h = before-none d l (after-rising (x .source) (sources l) r) h
 
   single-here : (d : ℕ) → x .source ≤ d → d < nextOf l → single (x ∷ l) d ≡ moved d (some x)
   unfolding single lastAt orElse
@@ -132,7 +129,7 @@ after-same x [] d h m = absurd (omega arith)
 after-same x (y ∷ l) d h m = ap (moved d) (after-next d x y l h)
 
 -- a record with no piece in the window changes no translation there
-pub no-piece : (a b : ℕ) (x : Entry) (l : List Entry) → risingAfter (x .source) l ≡ true → b ≤ 4294967296
+pub no-piece : (a b : ℕ) (x : Entry) (l : List Entry) → risingAfter (x .source) (sources l) ≡ true → b ≤ 4294967296
     → (min b (nextOf l) ≤ max a (x .source)) ⊎ (x .target ≡ 0) → (d : ℕ) → a ≤ d → d < b → single (x ∷ l) d ≡ single l d
 no-piece a b x l r w c d h m =
     ⊎-elim
@@ -148,14 +145,11 @@ no-piece a b x l r w c d h m =
     (lt-or-le d (nextOf l)))
     (lt-or-le d (x .source))
 
-same-width : (lo hi s t : ℕ) → s ≤ lo → lo ≤ hi → (hi - s + t) - (lo - s + t) ≡ hi - lo
-same-width lo hi s t h l = omega arith
-
 -- a record with a piece
-pub one-piece : (a b : ℕ) (x : Entry) (l : List Entry) → risingAfter (x .source) l ≡ true → b ≤ 4294967296
+pub one-piece : (a b : ℕ) (x : Entry) (l : List Entry) → risingAfter (x .source) (sources l) ≡ true → b ≤ 4294967296
     → max a (x .source) < min b (nextOf l) → (x .target ≡ 0 → ⊥)
     → mapMaybe (single (x ∷ l)) (range a b)
-    ≡ range (max a (x .source) - x .source + x .target) (min b (nextOf l) - x .source + x .target) ++ mapMaybe (single l) (range a b)
+    ≡ upFrom (max a (x .source) - x .source + x .target) (min b (nextOf l) - max a (x .source)) ++ mapMaybe (single l) (range a b)
 one-piece a b x l r w h z =
     let f = single (x ∷ l) in
     let g = single l in
@@ -169,18 +163,17 @@ one-piece a b x l r w h z =
     = ap (mapMaybe g) (range-split a hi b (omega arith) (omega arith)) ∙ map-append g (range a hi) (range hi b) ∙ ap (λ (k : List ℕ). k ++ mapMaybe g (range hi b)) rest in
     let one : range a b ≡ range a lo ++ range lo b = range-split a lo b (omega arith) (omega arith) in
     let two : range lo b ≡ range lo hi ++ range hi b = range-split lo hi b (omega arith) (omega arith) in
-    let n : (hi - x .source + x .target) - (lo - x .source + x .target) ≡ hi - lo = same-width lo hi (x .source) (x .target) (omega arith) (omega arith) in
     ap (mapMaybe f) (one ∙ ap (λ (k : List ℕ). range a lo ++ k) two)
     ∙ map-append f (range a lo) (range lo hi ++ range hi b)
     ∙ ap (λ (k : List ℕ). k ++ mapMaybe f (range lo hi ++ range hi b)) low
     ∙ map-append f (range lo hi) (range hi b)
-    ∙ rw (mid, top, whole, n)
+    ∙ rw (mid, top, whole)
 
-pub expansion : (a b : ℕ) (l : List Entry) → rising l ≡ true → b ≤ 4294967296 → expand (pieces a b l) ≡ mapMaybe (single l) (range a b)
+pub expansion : (a b : ℕ) (l : List Entry) → rising (sources l) ≡ true → b ≤ 4294967296 → expand (pieces a b l) ≡ mapMaybe (single l) (range a b)
 unfolding rising single moved lastAt pieces expand put
 expansion a b [] r w = sym (map-none (single []) (b - a) a (λ d p q. refl))
 expansion a b (x ∷ l) r w =
-    let ih : expand (pieces a b l) ≡ mapMaybe (single l) (range a b) = expansion a b l (after-rising (x .source) l r) w in
+    let ih : expand (pieces a b l) ≡ mapMaybe (single l) (range a b) = expansion a b l (after-rising (x .source) (sources l) r) w in
     let none-here : (min b (nextOf l) ≤ max a (x .source)) ⊎ (x .target ≡ 0) → mapMaybe (single (x ∷ l)) (range a b) ≡ mapMaybe (single l) (range a b)
     = λ c. map-same (single (x ∷ l)) (single l) (b - a) a (λ d p q. no-piece a b x l r w c d p (omega arith)) in
     ⊎-elim
@@ -189,8 +182,32 @@ expansion a b (x ∷ l) r w =
     (λ (z : x .target ≡ 0). rw (piece-zero a b x (nextOf l) z) (ih ∙ sym (none-here (inr z))))
     (λ (z : 0 < x .target).
     rw (piece-some a b x (nextOf l) h (λ e. omega arith))
-    (ap (λ (k : List ℕ). range (max a (x .source) - x .source + x .target) (min b (nextOf l) - x .source + x .target) ++ k) ih
+    (ap (λ (k : List ℕ). upFrom (max a (x .source) - x .source + x .target) (min b (nextOf l) - max a (x .source)) ++ k) ih
     ∙ sym (one-piece a b x l r w h (λ e. omega arith))))
     (eq-zero-or-pos (x .target)))
     (λ (h : min b (nextOf l) ≤ max a (x .source)). rw (piece-empty a b x (nextOf l) h) (ih ∙ sym (none-here (inl h))))
     (lt-or-le (max a (x .source)) (min b (nextOf l)))
+
+-- the pieces' lengths add up to the number of the window's addresses that have a translation
+length-up : (a n : ℕ) → length (upFrom a n) ≡ n
+unfolding upFrom
+length-up a zero = refl
+length-up a (suc n) = ap suc (length-up (suc a) n)
+
+length-expand : (l : List Piece) → length (expand l) ≡ total l
+unfolding expand total
+length-expand [] = refl
+length-expand (p ∷ l) =
+    length-append (upFrom (p .to) (p .size)) (expand l) ∙ omega (arith, length-up (p .to) (p .size), length-expand l)
+
+pub lengths : (a b : ℕ) (l : List Entry) → rising (sources l) ≡ true → b ≤ 4294967296 → total (pieces a b l) ≡ length (mapMaybe (single l) (range a b))
+lengths a b l r w = sym (length-expand (pieces a b l)) ∙ ap length (expansion a b l r w)
+
+-- demand 2 of a table that is not refused, in a window of 32 bits
+pub window-expansion : (s : List ℕ) (a b : ℕ) → omapFault s ≡ none → b ≤ 4294967295
+    → expand (pieces a b (records s)) ≡ mapMaybe (single (records s)) (range a b)
+window-expansion s a b good h = expansion a b (records s) (ap rising (sources-keys s) ∙ in-order s good) (omega arith)
+
+pub window-lengths : (s : List ℕ) (a b : ℕ) → omapFault s ≡ none → b ≤ 4294967295
+    → total (pieces a b (records s)) ≡ length (mapMaybe (single (records s)) (range a b))
+window-lengths s a b good h = lengths a b (records s) (ap rising (sources-keys s) ∙ in-order s good) (omega arith)

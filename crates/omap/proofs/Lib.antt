@@ -3,3 +3,4 @@ pub mod Lookups
 pub mod Pieces
 pub mod Filling
 pub mod Outputs
+pub mod Expansion

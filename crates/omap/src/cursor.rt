@@ -14,7 +14,8 @@ pub struct Cursor {
     pub place: usize,
 }
 
-use lent::{Checked, Refusal};
+use lent::Checked;
+use lent::Refusal;
 
 pub enum Started {
     At(Cursor),

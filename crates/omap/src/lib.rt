@@ -6,7 +6,8 @@ ghost use Rattle.omap.specs.Lookup.{toldRecorded, recordSpec, toldLooked
 pub mod cursor;
 pub mod window;
 
-use lent::{Checked, Refusal};
+use lent::Checked;
+use lent::Refusal;
 
 // The record at a place of a table.
 pub enum Recorded {

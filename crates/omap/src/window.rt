@@ -10,8 +10,8 @@ ghost use Rattle.omap.specs.Records.{records, rest};
 ghost use Rattle.omap.specs.Window.{nextOf, pieces};
 ghost use Rattle.omap.specs.Output.{allFit, flat, laid, toldWindowed, windowSpec, windowOut};
 ghost use Rattle.omap.specs.Part.{partAnswer, partAt, countAnswer};
-
-use lent::{Checked, Refusal};
+use lent::Checked;
+use lent::Refusal;
 
 // The part of a record inside a window. Its numbers may be above 32 bits.
 pub enum Part {

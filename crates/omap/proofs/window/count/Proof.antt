@@ -98,9 +98,16 @@ loop-again c =
     let l = at q in
     let a = l .before .before .before .args in
     let s = now (a .table) in
-    let st = step-some s (a .a) (a .b) (l .loop .i) (omega arith) (piece q) (found q) in
-    (omega arith, (omega arith, (omega (arith, ap length st),
-    l .loop .inv .1 .1 .1 ∙ ap allFit st ∙ fit-more (piece q) (pieces (a .a) (a .b) (rest s (l .loop .i + 1))) (c .if1 .left))))
+    let st = step-some s (a .a) (a .b) (l .loop .i) (omega arith) (piece q) (found q) in (
+      omega arith,
+      (
+        omega arith,
+        (
+          omega (arith, ap length st),
+          l .loop .inv .1 .1 .1 ∙ ap allFit st ∙ fit-more (piece q) (pieces (a .a) (a .b) (rest s (l .loop .i + 1))) (c .if1 .left),
+        ),
+      ),
+    )
 
 enum-told : tie.Need-enum-told Inv-loop μ-loop
 enum-told c = search needs
