@@ -4,3 +4,5 @@ pub mod Pieces
 pub mod Filling
 pub mod Outputs
 pub mod Expansion
+pub mod Turns
+pub mod Starts
