@@ -3,3 +3,4 @@ pub mod Place
 pub mod Rising
 pub mod Logic
 pub mod Determined
+pub mod Shaped

@@ -1,0 +1,38 @@
+-- `address_map::PdbInternalSectionOffset::to_section_offset` meets its contract: its path, or its input.
+-- Assumes nothing.
+use mathlib.Core.Path.{_≡_, refl, sym, ap, _∙_, subst}
+use borrow.Author.Needs.{needs}
+use Rattle.address_map.proofs.PdbInternalSectionOffset.to_section_offset.Statement.{
+  statement,
+}
+use Rattle.address_map.proofs.PdbInternalSectionOffset.to_section_offset.Tie as tie
+use Rattle.address_map.proofs.PdbInternalSectionOffset.to_section_offset.Reads as reads
+use Rattle.address_map.proofs.PdbInternalSectionOffset.to_section_offset.Lts as lts
+use Rattle.address_map.proofs.paths.place_cross_locate.Reads as place-cross-locate-reads
+use Rattle.address_map.proofs.section_offset_of.Reads as section-offset-of-reads
+use Rattle.lent.proofs.held.Reads as held-reads
+
+held-requires : tie.Need-held-requires
+held-requires c κs = search needs
+
+place-cross-locate-requires : tie.Need-place-cross-locate-requires
+place-cross-locate-requires c κs = search needs
+
+section-offset-of-requires : tie.Need-section-offset-of-requires
+section-offset-of-requires c κs = search needs
+
+returns : tie.Need-returns
+returns c = rw (c .before .before .before .if1 .taken) (c .section-offset-of .ensures ∙ c .before .place-cross-locate .ensures ∙ rw (c .before .before .held .ensures))
+
+returns-2 : tie.Need-returns-2
+returns-2 c = rw (c .if1 .left)
+
+pub to-section-offset-spec : {M : Type 1} → statement M
+to-section-offset-spec =
+    tie.close
+    (tie.spec
+    held-requires
+    place-cross-locate-requires
+    section-offset-of-requires
+    returns
+    returns-2)

@@ -1,0 +1,27 @@
+-- `address_map::Rva::to_internal_offset` meets its contract: its path, and the kind of the answer.
+-- Assumes nothing.
+use mathlib.Core.Path.{_≡_, refl, sym, ap, _∙_, subst}
+use borrow.Author.Needs.{needs}
+use Rattle.address_map.proofs.Rva.to_internal_offset.Statement.{statement}
+use Rattle.address_map.proofs.Rva.to_internal_offset.Tie as tie
+use Rattle.address_map.proofs.Rva.to_internal_offset.Reads as reads
+use Rattle.address_map.proofs.Rva.to_internal_offset.Lts as lts
+use Rattle.address_map.proofs.internal_offset_of.Reads as internal-offset-of-reads
+use Rattle.address_map.proofs.paths.cross_locate.Reads as cross-locate-reads
+use Rattle.lent.proofs.held.Reads as held-reads
+
+held-requires : tie.Need-held-requires
+held-requires c κs = search needs
+
+cross-locate-requires : tie.Need-cross-locate-requires
+cross-locate-requires c κs = search needs
+
+internal-offset-of-requires : tie.Need-internal-offset-of-requires
+internal-offset-of-requires c κs = search needs
+
+returns : tie.Need-returns
+returns c = c .internal-offset-of .ensures ∙ c .before .cross-locate .ensures ∙ rw (c .before .before .held .ensures)
+
+pub to-internal-offset-spec : {M : Type 1} → statement M
+to-internal-offset-spec =
+    tie.close (tie.spec held-requires cross-locate-requires internal-offset-of-requires returns)

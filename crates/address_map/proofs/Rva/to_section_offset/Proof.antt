@@ -1,0 +1,32 @@
+-- `address_map::Rva::to_section_offset` meets its contract: its path, and the kind of the answer.
+-- Assumes nothing.
+use mathlib.Core.Path.{_≡_, refl, sym, ap, _∙_, subst}
+use borrow.Author.Needs.{needs}
+use Rattle.address_map.proofs.Rva.to_section_offset.Statement.{statement}
+use Rattle.address_map.proofs.Rva.to_section_offset.Tie as tie
+use Rattle.address_map.proofs.Rva.to_section_offset.Reads as reads
+use Rattle.address_map.proofs.Rva.to_section_offset.Lts as lts
+use Rattle.address_map.proofs.paths.actual_sections.Reads as actual-sections-reads
+use Rattle.address_map.proofs.section_offset_of.Reads as section-offset-of-reads
+use Rattle.address_map.proofs.sections.get_section_offset.Reads as get-section-offset-reads
+
+actual-sections-requires : tie.Need-actual-sections-requires
+actual-sections-requires c κs = search needs
+
+get-section-offset-requires : tie.Need-get-section-offset-requires
+get-section-offset-requires c κs = search needs
+
+section-offset-of-requires : tie.Need-section-offset-of-requires
+section-offset-of-requires c κs = search needs
+
+returns : tie.Need-returns
+returns c = c .section-offset-of .ensures ∙ c .before .get-section-offset .ensures ∙ rw (c .before .before .actual-sections .ensures)
+
+pub to-section-offset-spec : {M : Type 1} → statement M
+to-section-offset-spec =
+    tie.close
+    (tie.spec
+    actual-sections-requires
+    get-section-offset-requires
+    section-offset-of-requires
+    returns)

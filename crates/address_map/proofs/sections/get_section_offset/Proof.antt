@@ -1,0 +1,117 @@
+-- `address_map::sections::get_section_offset` meets its contract: the walk from the place reached gives the answer.
+-- Assumes nothing.
+use Prim.Native.Nat.{ℕ, zero, suc, _+_, _-_, _*_, _/_, _≤_, _<_, max, min}
+use mathlib.Core.Path.{_≡_, refl, sym, ap, _∙_, subst}
+use native.Mathlib.Omega.{arith}
+use mathlib.Core.Option.{none, some}
+use lib.ListN.{length}
+use denote.Ref.{now}
+use borrow.Author.Needs.{needs}
+use Rattle.lent.specs.Paper.{number, toldChecked}
+use Rattle.lent.specs.Table.{sectionShape}
+use Rattle.lent.proofs.Shaped.{at-most}
+use Rattle.address_map.specs.Sections.{sectionSpec, walk}
+use Rattle.address_map.proofs.Walks.{rest, walk-end, walk-later, walk-here, walk-on, section-refused, section-good}
+use Rattle.address_map.proofs.sections.get_section_offset.Statement.{statement}
+use Rattle.address_map.proofs.sections.get_section_offset.Tie as tie
+use Rattle.address_map.proofs.sections.get_section_offset.Reads as reads
+use Rattle.address_map.proofs.sections.get_section_offset.Lts as lts
+use Rattle.lent.proofs.shape.Reads as shape-reads
+use Rattle.pe.proofs.extent_at.Reads as extent-at-reads
+use Rattle.pe.proofs.virtual_address_at.Reads as virtual-address-at-reads
+
+abbrev Inv-loop : tie.InvT-loop
+Inv-loop sections address n i₀ i = (i ≤ n) × ((n ≤ 65535) × (sectionSpec sections address ≡ walk address i (rest sections i)))
+
+abbrev μ-loop : tie.MeasureT-loop
+μ-loop sections address n i₀ i = n - i
+
+shape-requires : tie.Need-shape-requires Inv-loop μ-loop
+shape-requires c κs = omega arith
+
+enum-known-shaped : tie.Need-enum-known-shaped Inv-loop μ-loop
+enum-known-shaped c = search needs
+
+returns : tie.Need-returns Inv-loop μ-loop
+returns c =
+    let a = c .before .before .before .before .before .args in
+    section-refused (now (a .sections)) (a .address) (number (c .before .shaped .given .0 .0)) (sym (ap toldChecked (c .before .shaped .given .1)) ∙ c .before .before .before .shape .ensures)
+
+enum-told : tie.Need-enum-told Inv-loop μ-loop
+enum-told c = search needs
+
+-- past the test of its shape the table is good
+good : (c : tie.After-enum-told Inv-loop μ-loop) → none ≡ sectionShape (now (c .before .before .before .before .args .sections))
+good c = sym (ap toldChecked (c .enum-told .given .1)) ∙ c .before .before .shape .ensures
+
+loop-holds : tie.Need-loop-holds Inv-loop μ-loop
+loop-holds c =
+    let a = c .before .before .before .before .args in
+    (omega arith, (at-most 40 65535 (now (a .sections)) (good c), section-good (now (a .sections)) (a .address) (good c)))
+
+virtual-address-at-requires : tie.Need-virtual-address-at-requires Inv-loop μ-loop
+virtual-address-at-requires c κs = omega arith
+
+returns-2 : tie.Need-returns-2 Inv-loop μ-loop
+returns-2 c =
+    let l = c .before .before .before in
+    let a = l .before .before .before .before .before .args in
+    let s = now (a .sections) in
+    sym (l .loop .inv .1 .1 ∙ walk-later s (a .address) (l .loop .i) (omega arith) (omega arith))
+
+extent-at-requires : tie.Need-extent-at-requires Inv-loop μ-loop
+extent-at-requires c κs = omega arith
+
+add-t12 : tie.Need-add-t12 Inv-loop μ-loop
+add-t12 c = omega arith
+
+cast-t13 : tie.Need-cast-t13 Inv-loop μ-loop
+cast-t13 c = omega arith
+
+returns-3 : tie.Need-returns-3 Inv-loop μ-loop
+returns-3 c =
+    let l = c .before .before .before .before .before in
+    let a = l .before .before .before .before .before .args in
+    let s = now (a .sections) in
+    rw (c .before .before .before .virtual-address-at .ensures) (sym (l .loop .inv .1 .1 ∙ walk-here s (a .address) (l .loop .i) (omega arith) (omega arith) (omega arith)))
+
+add-i : tie.Need-add-i Inv-loop μ-loop
+add-i c = omega arith
+
+loop-less : tie.Need-loop-less Inv-loop μ-loop
+loop-less c = omega arith
+
+loop-again : tie.Need-loop-again Inv-loop μ-loop
+loop-again c =
+    let l = c .before .before .before .before .before in
+    let a = l .before .before .before .before .before .args in
+    let s = now (a .sections) in
+    (omega arith, (l .loop .inv .1 .0, l .loop .inv .1 .1 ∙ walk-on s (a .address) (l .loop .i) (omega arith) (omega arith) (omega arith)))
+
+returns-4 : tie.Need-returns-4 Inv-loop μ-loop
+returns-4 c =
+    let l = c .before in
+    let a = l .before .before .before .before .before .args in
+    sym (l .loop .inv .1 .1 ∙ walk-end (now (a .sections)) (a .address) (l .loop .i) (omega arith))
+
+pub get-section-offset-spec : {M : Type 1} → statement M
+get-section-offset-spec =
+    tie.close
+    (tie.spec
+    Inv-loop
+    μ-loop
+    shape-requires
+    enum-known-shaped
+    returns
+    enum-told
+    loop-holds
+    virtual-address-at-requires
+    returns-2
+    extent-at-requires
+    add-t12
+    cast-t13
+    returns-3
+    add-i
+    loop-less
+    loop-again
+    returns-4)

@@ -1,0 +1,70 @@
+// The paths of more than one step, and the sections of the actual side.
+ghost use mathlib.Core.Path.{_≡_};
+ghost use Rattle.omap.specs.Lookup.{toldLooked};
+ghost use Rattle.address_map.specs.Sections.{toldLocated};
+ghost use Rattle.address_map.specs.Paths.{actual, crossLocate, placeCross, placeCrossLocate};
+use crate::sections::Located;
+use crate::sections::get_section_offset;
+use crate::sections::get_virtual_address;
+use omap::Looked;
+
+// The sections of the actual side.
+pub fn actual_sections<'s>(
+    has_original: bool,
+    original: &'s [u8],
+    has_transformed: bool,
+    transformed: &'s [u8],
+) -> &'s [u8]
+    ensures { λ r. ⌜ now r ≡ actual «has_original» (now (original .entry)) «has_transformed» (now (transformed .entry)) ⌝ }
+{
+    if has_transformed {
+        return transformed;
+    }
+    lent::held(has_original, original)
+}
+
+// Through the OMAP, then to a section.
+pub fn cross_locate(present: bool, omap: &[u8], sections: &[u8], address: u32) -> Located
+    ensures { λ r. ⌜ toldLocated r ≡ crossLocate present (now (omap .entry)) (now (sections .entry)) address ⌝ }
+{
+    let crossed = omap::lookup(present, omap, address);
+    match crossed {
+        Looked::At(a) => get_section_offset(sections, a),
+        Looked::Nothing => Located::Nothing,
+        Looked::Refused(why) => Located::Refused(why),
+        Looked::TooLarge => Located::TooLarge,
+    }
+}
+
+// From a section, then through the OMAP.
+pub fn place_cross(sections: &[u8], present: bool, omap: &[u8], section: u16, offset: u32) -> Looked
+    ensures { λ r. ⌜ toldLooked r ≡ placeCross (now (sections .entry)) present (now (omap .entry)) (record { section = section; offset = offset }) ⌝ }
+{
+    let placed = get_virtual_address(sections, section, offset);
+    match placed {
+        Looked::At(a) => omap::lookup(present, omap, a),
+        Looked::Nothing => Looked::Nothing,
+        Looked::Refused(why) => Looked::Refused(why),
+        Looked::TooLarge => Looked::TooLarge,
+    }
+}
+
+// From a section, through the OMAP, to a section of the other side.
+pub fn place_cross_locate(
+    from: &[u8],
+    present: bool,
+    omap: &[u8],
+    to: &[u8],
+    section: u16,
+    offset: u32,
+) -> Located
+    ensures { λ r. ⌜ toldLocated r ≡ placeCrossLocate (now (from .entry)) present (now (omap .entry)) (now (to .entry)) (record { section = section; offset = offset }) ⌝ }
+{
+    let crossed = place_cross(from, present, omap, section, offset);
+    match crossed {
+        Looked::At(a) => get_section_offset(to, a),
+        Looked::Nothing => Located::Nothing,
+        Looked::Refused(why) => Located::Refused(why),
+        Looked::TooLarge => Located::TooLarge,
+    }
+}

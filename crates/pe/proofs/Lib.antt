@@ -1,0 +1,6 @@
+pub mod Part
+pub mod Given
+pub mod Align
+pub mod Leads
+pub mod Reading
+pub mod Names

@@ -1,0 +1,74 @@
+-- `pe::name_length` meets its contract: the name that the header holds, or none, by whether the table has the header.
+-- Assumes nothing.
+use mathlib.Core.Path.{ap, _∙_}
+use Prim.Native.Nat.{_-_}
+use native.Mathlib.Omega.{arith}
+use lib.ListN.{length}
+use denote.Ref.{now}
+use Rattle.pe.specs.declared.header.Given.the-variants as given
+use Rattle.pe.proofs.Given.{flagged}
+use Rattle.pe.proofs.Names.{name-zero, name-given, name-held}
+use borrow.Author.Needs.{needs}
+use Rattle.pe.proofs.naming.name_length.Statement.{statement}
+use Rattle.pe.proofs.naming.name_length.Tie as tie
+
+returns : tie.Need-returns
+returns c =
+    let a = c .before .before .args in
+    ap length (name-zero (now (a .table)) (a .number) (c .if1 .taken))
+
+sub-place : tie.Need-sub-place
+sub-place c = search needs
+
+given-at-requires : tie.Need-given-at-requires
+given-at-requires c κs = search needs
+
+enum-told : tie.Need-enum-told
+enum-told c = search needs
+
+mul-held-length : tie.Need-mul-held-length
+mul-held-length c = search needs
+
+held-length-requires : tie.Need-held-length-requires
+held-length-requires c κs =
+    let a = c .before .before .before .before .before .args in
+    omega (arith, flagged (now (a .table)) (a .number - 1) _ (c .enum-told .given .1) (c .before .before .given-at .ensures))
+
+enum-told-2 : tie.Need-enum-told-2
+enum-told-2 c = search needs
+
+enum-told-3 : tie.Need-enum-told-3
+enum-told-3 c = search needs
+
+returns-2 : tie.Need-returns-2
+returns-2 c =
+    let a = c .before .before .before .before .before .before .args in
+    let s = now (a .table) in
+    c .held-length .ensures
+    ∙ ap length (name-held s (a .number - 1) ∙ name-given s (a .number) given.Header _ (omega arith) (c .before .enum-told .given .1) (c .before .before .before .given-at .ensures))
+
+returns-3 : tie.Need-returns-3
+returns-3 c =
+    let a = c .before .before .before .before .before .args in
+    ap length (name-given (now (a .table)) (a .number) given.Nothing _ (omega arith) (c .enum-told2 .given .1) (c .before .before .given-at .ensures))
+
+returns-4 : tie.Need-returns-4
+returns-4 c =
+    let a = c .before .before .before .before .before .args in
+    ap length (name-given (now (a .table)) (a .number) (given.Refused _) _ (omega arith) (c .enum-told3 .given .1) (c .before .before .given-at .ensures))
+
+pub name-length-spec : {M : Type 1} → statement M
+name-length-spec =
+    tie.close
+    (tie.spec
+    returns
+    sub-place
+    given-at-requires
+    enum-told
+    mul-held-length
+    held-length-requires
+    enum-told-2
+    enum-told-3
+    returns-2
+    returns-3
+    returns-4)

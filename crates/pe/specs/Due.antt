@@ -1,0 +1,16 @@
+-- What a text may go on with, as the code holds it, in the terms of RFC 3629's table.
+use Prim.Native.Nat.{ℕ, zero, suc}
+use mathlib.Core.List.{List, [], _∷_}
+use mathlib.Core.Option.{Option, none, some}
+use Rattle.pe.specs.Utf8.{Range, _to_, UTF8-tail}
+use Rattle.pe.specs.declared.naming.Due.{Due}
+use Rattle.pe.specs.declared.naming.Due.the-variants as due
+
+abbrev pub tails : ℕ → List Range
+tails zero = []
+tails (suc n) = UTF8-tail ∷ tails n
+
+abbrev pub toldDue : Due → Option (List Range)
+toldDue due.Never = none
+toldDue due.Character = some []
+toldDue (due.Bytes low high more) = some (low to high ∷ tails more)

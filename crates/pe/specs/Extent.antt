@@ -1,0 +1,7 @@
+-- The extent of a section: the size with which an address is compared.
+use Prim.Native.Nat.{ℕ}
+use Rattle.pe.specs.declared.header.ImageSectionHeader.{ImageSectionHeader}
+
+-- today the size of its data on disk
+unfoldable pub extent : ImageSectionHeader → ℕ
+extent h = h .«size_of_raw_data»
