@@ -49,6 +49,7 @@ const IMAGE_SCN_MEM_WRITE: u32 = 0x80000000;
 const IMAGE_SCN_ALIGN_1BYTES: u32 = 0x00100000;
 
 // The flags of a section header, which the PE format defines as `IMAGE_SCN_` constants.
+#[repr(C)]
 pub struct SectionCharacteristics(pub u32);
 
 // The alignment of a section's data in bytes, where the flags specify one.

@@ -1,0 +1,26 @@
+-- `gillacorn::addresses::gillacorn_internal_rva_to_section_offset` meets its contract: the answer of the library, as the face shows it.
+-- Assumes nothing.
+use mathlib.Core.Path.{_≡_, refl, sym, ap, _∙_}
+use Rattle.gillacorn.specs.Addresses.{offsetAnswer}
+use borrow.Author.Needs.{needs}
+use Rattle.gillacorn.proofs.addresses.gillacorn_internal_rva_to_section_offset.Statement.{
+  statement,
+}
+use Rattle.gillacorn.proofs.addresses.gillacorn_internal_rva_to_section_offset.Tie as tie
+use Rattle.gillacorn.proofs.addresses.gillacorn_internal_rva_to_section_offset.Reads as reads
+use Rattle.gillacorn.proofs.addresses.gillacorn_internal_rva_to_section_offset.Lts as lts
+use Rattle.address_map.proofs.PdbInternalRva.to_section_offset.Reads as to-section-offset-reads
+use Rattle.gillacorn.proofs.addresses.section_offset_answer.Reads as section-offset-answer-reads
+
+to-section-offset-requires : tie.Need-to-section-offset-requires
+to-section-offset-requires c κs = search needs
+
+section-offset-answer-requires : tie.Need-section-offset-answer-requires
+section-offset-answer-requires c κs = search needs
+
+returns : tie.Need-returns
+returns c = c .section-offset-answer .ensures ∙ ap offsetAnswer (c .before .to-section-offset .ensures)
+
+pub gillacorn-internal-rva-to-section-offset-spec : {M : Type 1} → statement M
+gillacorn-internal-rva-to-section-offset-spec =
+    tie.close (tie.spec to-section-offset-requires section-offset-answer-requires returns)

@@ -1,0 +1,24 @@
+-- `gillacorn::addresses::gillacorn_rva_to_internal_rva` meets its contract: the answer of the library, as the face shows it.
+-- Assumes nothing.
+use mathlib.Core.Path.{_≡_, refl, sym, ap, _∙_}
+use Rattle.gillacorn.specs.Code.{valueOf}
+use borrow.Author.Needs.{needs}
+use Rattle.gillacorn.proofs.addresses.gillacorn_rva_to_internal_rva.Statement.{statement}
+use Rattle.gillacorn.proofs.addresses.gillacorn_rva_to_internal_rva.Tie as tie
+use Rattle.gillacorn.proofs.addresses.gillacorn_rva_to_internal_rva.Reads as reads
+use Rattle.gillacorn.proofs.addresses.gillacorn_rva_to_internal_rva.Lts as lts
+use Rattle.address_map.proofs.Rva.to_internal_rva.Reads as to-internal-rva-reads
+use Rattle.gillacorn.proofs.addresses.internal_rva_value.Reads as internal-rva-value-reads
+
+to-internal-rva-requires : tie.Need-to-internal-rva-requires
+to-internal-rva-requires c κs = search needs
+
+internal-rva-value-requires : tie.Need-internal-rva-value-requires
+internal-rva-value-requires c κs = search needs
+
+returns : tie.Need-returns
+returns c = c .internal-rva-value .ensures ∙ ap valueOf (c .before .to-internal-rva .ensures)
+
+pub gillacorn-rva-to-internal-rva-spec : {M : Type 1} → statement M
+gillacorn-rva-to-internal-rva-spec =
+    tie.close (tie.spec to-internal-rva-requires internal-rva-value-requires returns)

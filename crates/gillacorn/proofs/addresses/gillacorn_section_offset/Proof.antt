@@ -1,0 +1,24 @@
+-- `gillacorn::addresses::gillacorn_section_offset` meets its contract: the answer of the library, as the face shows it.
+-- Assumes nothing.
+use mathlib.Core.Path.{_≡_, refl, sym, ap, _∙_}
+use Rattle.gillacorn.specs.Addresses.{offsetAnswer}
+use borrow.Author.Needs.{needs}
+use Rattle.gillacorn.proofs.addresses.gillacorn_section_offset.Statement.{statement}
+use Rattle.gillacorn.proofs.addresses.gillacorn_section_offset.Tie as tie
+use Rattle.gillacorn.proofs.addresses.gillacorn_section_offset.Reads as reads
+use Rattle.gillacorn.proofs.addresses.gillacorn_section_offset.Lts as lts
+use Rattle.address_map.proofs.sections.get_section_offset.Reads as get-section-offset-reads
+use Rattle.gillacorn.proofs.addresses.located_answer.Reads as located-answer-reads
+
+get-section-offset-requires : tie.Need-get-section-offset-requires
+get-section-offset-requires c κs = search needs
+
+located-answer-requires : tie.Need-located-answer-requires
+located-answer-requires c κs = search needs
+
+returns : tie.Need-returns
+returns c = c .located-answer .ensures ∙ ap offsetAnswer (c .before .get-section-offset .ensures)
+
+pub gillacorn-section-offset-spec : {M : Type 1} → statement M
+gillacorn-section-offset-spec =
+    tie.close (tie.spec get-section-offset-requires located-answer-requires returns)

@@ -1,0 +1,24 @@
+-- `gillacorn::addresses::gillacorn_virtual_address` meets its contract: the answer of the library, as the face shows it.
+-- Assumes nothing.
+use mathlib.Core.Path.{_≡_, refl, sym, ap, _∙_}
+use Rattle.gillacorn.specs.Code.{valueOf}
+use borrow.Author.Needs.{needs}
+use Rattle.gillacorn.proofs.addresses.gillacorn_virtual_address.Statement.{statement}
+use Rattle.gillacorn.proofs.addresses.gillacorn_virtual_address.Tie as tie
+use Rattle.gillacorn.proofs.addresses.gillacorn_virtual_address.Reads as reads
+use Rattle.gillacorn.proofs.addresses.gillacorn_virtual_address.Lts as lts
+use Rattle.address_map.proofs.sections.get_virtual_address.Reads as get-virtual-address-reads
+use Rattle.gillacorn.proofs.code.value_of.Reads as value-of-reads
+
+get-virtual-address-requires : tie.Need-get-virtual-address-requires
+get-virtual-address-requires c κs = search needs
+
+value-of-requires : tie.Need-value-of-requires
+value-of-requires c κs = search needs
+
+returns : tie.Need-returns
+returns c = c .value-of .ensures ∙ ap valueOf (c .before .get-virtual-address .ensures)
+
+pub gillacorn-virtual-address-spec : {M : Type 1} → statement M
+gillacorn-virtual-address-spec =
+    tie.close (tie.spec get-virtual-address-requires value-of-requires returns)

@@ -1,0 +1,53 @@
+-- `gillacorn::code::value_of` meets its contract: case by case.
+-- Assumes nothing.
+use mathlib.Core.Path.{_≡_, refl, sym, ap, _∙_}
+use Rattle.omap.specs.declared.Looked.{Looked}
+use Rattle.omap.specs.Lookup.{toldLooked}
+use Rattle.gillacorn.specs.Code.{valueOf}
+use borrow.Author.Needs.{needs}
+use Rattle.gillacorn.proofs.code.value_of.Statement.{statement}
+use Rattle.gillacorn.proofs.code.value_of.Tie as tie
+use Rattle.gillacorn.proofs.code.value_of.Reads as reads
+use Rattle.gillacorn.proofs.code.value_of.Lts as lts
+use Rattle.gillacorn.proofs.code.number_of.Reads as number-of-reads
+
+enum-known-looked : tie.Need-enum-known-looked
+enum-known-looked c = search needs
+
+enum-told : tie.Need-enum-told
+enum-told c = search needs
+
+enum-known-looked-2 : tie.Need-enum-known-looked-2
+enum-known-looked-2 c = search needs
+
+number-of-requires : tie.Need-number-of-requires
+number-of-requires c κs = search needs
+
+enum-told-2 : tie.Need-enum-told-2
+enum-told-2 c = search needs
+
+returns : tie.Need-returns
+returns c = sym (ap (λ (t : Looked). valueOf (toldLooked t)) (c .before .looked .given .1))
+
+returns-2 : tie.Need-returns-2
+returns-2 c = sym (ap (λ (t : Looked). valueOf (toldLooked t)) (c .enum-told .given .1))
+
+returns-3 : tie.Need-returns-3
+returns-3 c = rw (c .number-of .ensures) (sym (ap (λ (t : Looked). valueOf (toldLooked t)) (c .before .before .looked2 .given .1)))
+
+returns-4 : tie.Need-returns-4
+returns-4 c = sym (ap (λ (t : Looked). valueOf (toldLooked t)) (c .enum-told2 .given .1))
+
+pub value-of-spec : {M : Type 1} → statement M
+value-of-spec =
+    tie.close
+    (tie.spec
+    enum-known-looked
+    enum-told
+    enum-known-looked-2
+    number-of-requires
+    enum-told-2
+    returns
+    returns-2
+    returns-3
+    returns-4)

@@ -1,0 +1,29 @@
+-- `gillacorn::headers::aligned` meets its contract: case by case.
+-- Assumes nothing.
+use mathlib.Core.Path.{_≡_, refl, sym, ap, _∙_}
+use Rattle.pe.specs.declared.characteristics.Alignment.{Alignment}
+use Rattle.pe.specs.Flags.{toldAlignment}
+use Rattle.gillacorn.specs.Code.{valueOf}
+use borrow.Author.Needs.{needs}
+use Rattle.gillacorn.proofs.headers.aligned.Statement.{statement}
+use Rattle.gillacorn.proofs.headers.aligned.Tie as tie
+use Rattle.gillacorn.proofs.headers.aligned.Reads as reads
+use Rattle.gillacorn.proofs.headers.aligned.Lts as lts
+
+enum-known-alignment : tie.Need-enum-known-alignment
+enum-known-alignment c = search needs
+
+cast-t4 : tie.Need-cast-t4
+cast-t4 c = search needs
+
+enum-told : tie.Need-enum-told
+enum-told c = search needs
+
+returns : tie.Need-returns
+returns c = sym (ap (λ (t : Alignment). valueOf (toldAlignment t)) (c .before .alignment .given .1))
+
+returns-2 : tie.Need-returns-2
+returns-2 c = sym (ap (λ (t : Alignment). valueOf (toldAlignment t)) (c .enum-told .given .1))
+
+pub aligned-spec : {M : Type 1} → statement M
+aligned-spec = tie.close (tie.spec enum-known-alignment cast-t4 enum-told returns returns-2)

@@ -1,0 +1,117 @@
+-- `gillacorn::headers::gillacorn_characteristics` meets its contract: each flag by its method.
+-- Assumes nothing.
+use mathlib.Core.Path.{_≡_, refl, sym, ap, _∙_}
+use borrow.Author.Needs.{needs}
+use Rattle.gillacorn.proofs.headers.gillacorn_characteristics.Statement.{statement}
+use Rattle.gillacorn.proofs.headers.gillacorn_characteristics.Tie as tie
+use Rattle.gillacorn.proofs.headers.gillacorn_characteristics.Reads as reads
+use Rattle.gillacorn.proofs.headers.gillacorn_characteristics.Lts as lts
+use Rattle.pe.proofs.characteristics.SectionCharacteristics.comdat.Reads as comdat-reads
+use Rattle.pe.proofs.characteristics.SectionCharacteristics.defer_speculative_exceptions.Reads as defer-speculative-exceptions-reads
+use Rattle.pe.proofs.characteristics.SectionCharacteristics.discardable.Reads as discardable-reads
+use Rattle.pe.proofs.characteristics.SectionCharacteristics.executable.Reads as executable-reads
+use Rattle.pe.proofs.characteristics.SectionCharacteristics.execute.Reads as execute-reads
+use Rattle.pe.proofs.characteristics.SectionCharacteristics.global_pointer_relative.Reads as global-pointer-relative-reads
+use Rattle.pe.proofs.characteristics.SectionCharacteristics.info.Reads as info-reads
+use Rattle.pe.proofs.characteristics.SectionCharacteristics.initialized_data.Reads as initialized-data-reads
+use Rattle.pe.proofs.characteristics.SectionCharacteristics.lnk_nreloc_ovfl.Reads as lnk-nreloc-ovfl-reads
+use Rattle.pe.proofs.characteristics.SectionCharacteristics.locked.Reads as locked-reads
+use Rattle.pe.proofs.characteristics.SectionCharacteristics.not_cached.Reads as not-cached-reads
+use Rattle.pe.proofs.characteristics.SectionCharacteristics.not_paged.Reads as not-paged-reads
+use Rattle.pe.proofs.characteristics.SectionCharacteristics.other.Reads as other-reads
+use Rattle.pe.proofs.characteristics.SectionCharacteristics.preload.Reads as preload-reads
+use Rattle.pe.proofs.characteristics.SectionCharacteristics.purgeable.Reads as purgeable-reads
+use Rattle.pe.proofs.characteristics.SectionCharacteristics.read.Reads as read-reads
+use Rattle.pe.proofs.characteristics.SectionCharacteristics.remove.Reads as remove-reads
+use Rattle.pe.proofs.characteristics.SectionCharacteristics.shared.Reads as shared-reads
+use Rattle.pe.proofs.characteristics.SectionCharacteristics.uninitialized_data.Reads as uninitialized-data-reads
+use Rattle.pe.proofs.characteristics.SectionCharacteristics.write.Reads as write-reads
+
+executable-requires : tie.Need-executable-requires
+executable-requires c κs = search needs
+
+initialized-data-requires : tie.Need-initialized-data-requires
+initialized-data-requires c κs = search needs
+
+uninitialized-data-requires : tie.Need-uninitialized-data-requires
+uninitialized-data-requires c κs = search needs
+
+other-requires : tie.Need-other-requires
+other-requires c κs = search needs
+
+info-requires : tie.Need-info-requires
+info-requires c κs = search needs
+
+remove-requires : tie.Need-remove-requires
+remove-requires c κs = search needs
+
+comdat-requires : tie.Need-comdat-requires
+comdat-requires c κs = search needs
+
+defer-speculative-exceptions-requires : tie.Need-defer-speculative-exceptions-requires
+defer-speculative-exceptions-requires c κs = search needs
+
+global-pointer-relative-requires : tie.Need-global-pointer-relative-requires
+global-pointer-relative-requires c κs = search needs
+
+purgeable-requires : tie.Need-purgeable-requires
+purgeable-requires c κs = search needs
+
+locked-requires : tie.Need-locked-requires
+locked-requires c κs = search needs
+
+preload-requires : tie.Need-preload-requires
+preload-requires c κs = search needs
+
+lnk-nreloc-ovfl-requires : tie.Need-lnk-nreloc-ovfl-requires
+lnk-nreloc-ovfl-requires c κs = search needs
+
+discardable-requires : tie.Need-discardable-requires
+discardable-requires c κs = search needs
+
+not-cached-requires : tie.Need-not-cached-requires
+not-cached-requires c κs = search needs
+
+not-paged-requires : tie.Need-not-paged-requires
+not-paged-requires c κs = search needs
+
+shared-requires : tie.Need-shared-requires
+shared-requires c κs = search needs
+
+execute-requires : tie.Need-execute-requires
+execute-requires c κs = search needs
+
+read-requires : tie.Need-read-requires
+read-requires c κs = search needs
+
+write-requires : tie.Need-write-requires
+write-requires c κs = search needs
+
+returns : tie.Need-returns
+returns c = rw (c .before .before .before .before .before .before .before .before .before .before .before .before .before .before .before .before .before .before .before .executable .ensures, c .before .before .before .before .before .before .before .before .before .before .before .before .before .before .before .before .before .before .initialized-data .ensures, c .before .before .before .before .before .before .before .before .before .before .before .before .before .before .before .before .before .uninitialized-data .ensures, c .before .before .before .before .before .before .before .before .before .before .before .before .before .before .before .before .other .ensures, c .before .before .before .before .before .before .before .before .before .before .before .before .before .before .before .info .ensures, c .before .before .before .before .before .before .before .before .before .before .before .before .before .before .remove .ensures, c .before .before .before .before .before .before .before .before .before .before .before .before .before .comdat .ensures, c .before .before .before .before .before .before .before .before .before .before .before .before .defer-speculative-exceptions .ensures, c .before .before .before .before .before .before .before .before .before .before .before .global-pointer-relative .ensures, c .before .before .before .before .before .before .before .before .before .before .purgeable .ensures, c .before .before .before .before .before .before .before .before .before .locked .ensures, c .before .before .before .before .before .before .before .before .preload .ensures, c .before .before .before .before .before .before .before .lnk-nreloc-ovfl .ensures, c .before .before .before .before .before .before .discardable .ensures, c .before .before .before .before .before .not-cached .ensures, c .before .before .before .before .not-paged .ensures, c .before .before .before .shared .ensures, c .before .before .execute .ensures, c .before .read .ensures, c .write .ensures)
+
+pub gillacorn-characteristics-spec : {M : Type 1} → statement M
+gillacorn-characteristics-spec =
+    tie.close
+    (tie.spec
+    executable-requires
+    initialized-data-requires
+    uninitialized-data-requires
+    other-requires
+    info-requires
+    remove-requires
+    comdat-requires
+    defer-speculative-exceptions-requires
+    global-pointer-relative-requires
+    purgeable-requires
+    locked-requires
+    preload-requires
+    lnk-nreloc-ovfl-requires
+    discardable-requires
+    not-cached-requires
+    not-paged-requires
+    shared-requires
+    execute-requires
+    read-requires
+    write-requires
+    returns)

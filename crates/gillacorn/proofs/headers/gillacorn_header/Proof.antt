@@ -1,0 +1,29 @@
+-- `gillacorn::headers::gillacorn_header` meets its contract: the header of the library beside its code.
+-- Assumes nothing.
+use mathlib.Core.Path.{_≡_, refl, sym, ap, _∙_}
+use denote.Ref.{now}
+use Rattle.pe.specs.Header.{headerSpec}
+use Rattle.gillacorn.specs.Code.{codeOf}
+use borrow.Author.Needs.{needs}
+use Rattle.gillacorn.proofs.headers.gillacorn_header.Statement.{statement}
+use Rattle.gillacorn.proofs.headers.gillacorn_header.Tie as tie
+use Rattle.gillacorn.proofs.headers.gillacorn_header.Reads as reads
+use Rattle.gillacorn.proofs.headers.gillacorn_header.Lts as lts
+use Rattle.gillacorn.proofs.headers.code_of.Reads as code-of-reads
+use Rattle.pe.proofs.header_at.Reads as header-at-reads
+
+header-at-requires : tie.Need-header-at-requires
+header-at-requires c κs = search needs
+
+code-of-requires : tie.Need-code-of-requires
+code-of-requires c κs = search needs
+
+returns : tie.Need-returns
+returns c =
+    let a = c .before .before .before .before .args in
+    let h = c .before .before .header-at in
+    let code : c .code-of .result ≡ codeOf (headerSpec (now (a .table)) (a .place)) = c .code-of .ensures (h .result .header) ∙ ap codeOf (h .ensures .told) in
+    rw (code, h .ensures .beside)
+
+pub gillacorn-header-spec : {M : Type 1} → statement M
+gillacorn-header-spec = tie.close (tie.spec header-at-requires code-of-requires returns)

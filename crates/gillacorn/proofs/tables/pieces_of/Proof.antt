@@ -1,0 +1,53 @@
+-- `gillacorn::tables::pieces_of` meets its contract: case by case.
+-- Assumes nothing.
+use mathlib.Core.Path.{_≡_, refl, sym, ap, _∙_}
+use Rattle.omap.specs.declared.window.Windowed.{Windowed}
+use Rattle.omap.specs.Output.{toldWindowed}
+use Rattle.gillacorn.specs.Tables.{piecesOf}
+use borrow.Author.Needs.{needs}
+use Rattle.gillacorn.proofs.tables.pieces_of.Statement.{statement}
+use Rattle.gillacorn.proofs.tables.pieces_of.Tie as tie
+use Rattle.gillacorn.proofs.tables.pieces_of.Reads as reads
+use Rattle.gillacorn.proofs.tables.pieces_of.Lts as lts
+use Rattle.gillacorn.proofs.code.number_of.Reads as number-of-reads
+
+enum-known-windowed : tie.Need-enum-known-windowed
+enum-known-windowed c = search needs
+
+enum-known-windowed-2 : tie.Need-enum-known-windowed-2
+enum-known-windowed-2 c = search needs
+
+number-of-requires : tie.Need-number-of-requires
+number-of-requires c κs = search needs
+
+enum-told : tie.Need-enum-told
+enum-told c = search needs
+
+enum-known-windowed-3 : tie.Need-enum-known-windowed-3
+enum-known-windowed-3 c = search needs
+
+returns : tie.Need-returns
+returns c = sym (ap (λ (t : Windowed). piecesOf (toldWindowed t)) (c .before .windowed .given .1))
+
+returns-2 : tie.Need-returns-2
+returns-2 c = rw (c .number-of .ensures) (sym (ap (λ (t : Windowed). piecesOf (toldWindowed t)) (c .before .before .windowed2 .given .1)))
+
+returns-3 : tie.Need-returns-3
+returns-3 c = sym (ap (λ (t : Windowed). piecesOf (toldWindowed t)) (c .enum-told .given .1))
+
+returns-4 : tie.Need-returns-4
+returns-4 c = sym (ap (λ (t : Windowed). piecesOf (toldWindowed t)) (c .before .windowed3 .given .1))
+
+pub pieces-of-spec : {M : Type 1} → statement M
+pieces-of-spec =
+    tie.close
+    (tie.spec
+    enum-known-windowed
+    enum-known-windowed-2
+    number-of-requires
+    enum-told
+    enum-known-windowed-3
+    returns
+    returns-2
+    returns-3
+    returns-4)
