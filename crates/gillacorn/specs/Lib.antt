@@ -2,3 +2,4 @@ pub mod Code
 pub mod Tables
 pub mod Headers
 pub mod Addresses
+pub mod Frames

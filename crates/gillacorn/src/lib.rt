@@ -2,5 +2,6 @@
 // are structs of numbers. include/gillacorn.h declares them.
 pub mod addresses;
 pub mod code;
+pub mod frames;
 pub mod headers;
 pub mod tables;

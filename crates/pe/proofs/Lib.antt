@@ -4,3 +4,6 @@ pub mod Align
 pub mod Leads
 pub mod Reading
 pub mod Names
+pub mod Determined
+pub mod Tables
+pub mod Grammar

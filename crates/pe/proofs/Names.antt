@@ -11,7 +11,7 @@ use mathlib.Core.Option.{Option, none, some}
 use lib.ListN.{length, take, drop, length-take}
 use lib.Seq.{take-take}
 use lib.Dec.{eqb, ltb}
-use Rattle.lent.specs.Paper.{Told, value, nothing, unless}
+use Rattle.lent.specs.Paper.{value, nothing, unless}
 use Rattle.lent.specs.Table.{sectionShape}
 use Rattle.lent.proofs.Logic.{which}
 use Rattle.pe.specs.Header.{headerAt, headerSpec, toldGiven}

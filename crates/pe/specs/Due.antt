@@ -6,10 +6,12 @@ use Rattle.pe.specs.Utf8.{Range, _to_, UTF8-tail}
 use Rattle.pe.specs.declared.naming.Due.{Due}
 use Rattle.pe.specs.declared.naming.Due.the-variants as due
 
+-- n bytes of the tail
 abbrev pub tails : ℕ → List Range
 tails zero = []
 tails (suc n) = UTF8-tail ∷ tails n
 
+-- none: no byte makes it UTF-8 any more; no range: it may end here
 abbrev pub toldDue : Due → Option (List Range)
 toldDue due.Never = none
 toldDue due.Character = some []

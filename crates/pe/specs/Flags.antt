@@ -72,6 +72,7 @@ alignmentSpec x =
     (cond (eqb (alignBits x) 0) (value 1) nothing)
     (cond (leb 1 (alignBits x) && leb (alignBits x) 14) (value (2 ^ (alignBits x - 1))) nothing)
 
+-- the alignment, as the paper's answer
 abbrev pub toldAlignment : Alignment → Told ℕ
 toldAlignment (alignment.Bytes n) = value n
 toldAlignment alignment.Nothing = nothing

@@ -93,6 +93,7 @@ noHeader =
       characteristics = record { 0 = 0 };
     }
 
+-- the header that an answer shows
 abbrev pub headerOr0 : Told ImageSectionHeader → ImageSectionHeader
 headerOr0 (value h) = h
 headerOr0 nothing = noHeader

@@ -2,5 +2,6 @@ pub mod Header
 pub mod Extent
 pub mod Flags
 pub mod Utf8
-pub mod Name
+pub mod Grammar
 pub mod Due
+pub mod Name

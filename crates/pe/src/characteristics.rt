@@ -1,7 +1,12 @@
 // What a section holds and how it is used: the flags of a section header, in the order of the Rust.
 ghost use mathlib.Core.Path.{_≡_};
 ghost use Prim.Native.Nat.{_<_};
-ghost use Rattle.pe.specs.Flags.{«IMAGE_SCN_CNT_CODE», «IMAGE_SCN_CNT_INITIALIZED_DATA», «IMAGE_SCN_CNT_UNINITIALIZED_DATA», «IMAGE_SCN_LNK_OTHER», «IMAGE_SCN_LNK_INFO», «IMAGE_SCN_LNK_REMOVE», «IMAGE_SCN_LNK_COMDAT», «IMAGE_SCN_NO_DEFER_SPEC_EXC», «IMAGE_SCN_GPREL», «IMAGE_SCN_MEM_PURGEABLE», «IMAGE_SCN_MEM_LOCKED», «IMAGE_SCN_MEM_PRELOAD», «IMAGE_SCN_LNK_NRELOC_OVFL», «IMAGE_SCN_MEM_DISCARDABLE», «IMAGE_SCN_MEM_NOT_CACHED», «IMAGE_SCN_MEM_NOT_PAGED», «IMAGE_SCN_MEM_SHARED», «IMAGE_SCN_MEM_EXECUTE», «IMAGE_SCN_MEM_READ», «IMAGE_SCN_MEM_WRITE»};
+ghost use Rattle.pe.specs.Flags.{«IMAGE_SCN_CNT_CODE», «IMAGE_SCN_CNT_INITIALIZED_DATA», «IMAGE_SCN_CNT_UNINITIALIZED_DATA», «IMAGE_SCN_LNK_OTHER»};
+ghost use Rattle.pe.specs.Flags.{«IMAGE_SCN_LNK_INFO», «IMAGE_SCN_LNK_REMOVE», «IMAGE_SCN_LNK_COMDAT»};
+ghost use Rattle.pe.specs.Flags.{«IMAGE_SCN_NO_DEFER_SPEC_EXC», «IMAGE_SCN_GPREL»};
+ghost use Rattle.pe.specs.Flags.{«IMAGE_SCN_MEM_PURGEABLE», «IMAGE_SCN_MEM_LOCKED», «IMAGE_SCN_MEM_PRELOAD», «IMAGE_SCN_LNK_NRELOC_OVFL»};
+ghost use Rattle.pe.specs.Flags.{«IMAGE_SCN_MEM_DISCARDABLE», «IMAGE_SCN_MEM_NOT_CACHED», «IMAGE_SCN_MEM_NOT_PAGED»};
+ghost use Rattle.pe.specs.Flags.{«IMAGE_SCN_MEM_SHARED», «IMAGE_SCN_MEM_EXECUTE», «IMAGE_SCN_MEM_READ», «IMAGE_SCN_MEM_WRITE»};
 ghost use Rattle.pe.specs.Flags.{alignmentSpec, has, isSet, toldAlignment};
 
 const IMAGE_SCN_TYPE_NO_PAD: u32 = 0x00000008;
@@ -45,6 +50,7 @@ const IMAGE_SCN_MEM_EXECUTE: u32 = 0x20000000;
 const IMAGE_SCN_MEM_READ: u32 = 0x40000000;
 
 const IMAGE_SCN_MEM_WRITE: u32 = 0x80000000;
+
 // The lowest of the four bits that hold the alignment.
 const IMAGE_SCN_ALIGN_1BYTES: u32 = 0x00100000;
 

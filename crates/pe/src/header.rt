@@ -24,8 +24,11 @@ pub struct ImageSectionHeader {
     pub pointer_to_relocations: u32,
     // Where its line numbers stand in the file.
     pub pointer_to_line_numbers: u32,
+    // How many relocations it has: 0 for an image.
     pub number_of_relocations: u16,
+    // How many line numbers it has.
     pub number_of_line_numbers: u16,
+    // What it holds and how it is used.
     pub characteristics: SectionCharacteristics,
 }
 
@@ -117,7 +120,7 @@ fn no_header(given: Given) -> Headed
     }
 }
 
-// Whether a table has a header at a place, without a look at it.
+// Whether a table has a header at a place: the flag that `header_at` gives, without the header.
 pub fn given_at(table: &[u8], place: usize) -> Given
     ensures { λ r. ⌜ toldGiven r (headerAt (now (table .entry)) place) ≡ headerSpec (now (table .entry)) place ⌝ }
 {

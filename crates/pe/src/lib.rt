@@ -9,6 +9,7 @@ pub use header::Given;
 pub use header::Headed;
 pub use header::ImageSectionHeader;
 pub use header::extent_at;
+pub use header::given_at;
 pub use header::header_at;
 pub use header::virtual_address_at;
 pub use naming::name;

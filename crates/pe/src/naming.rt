@@ -15,8 +15,8 @@ enum Due {
     Never,
     // It may end here, or a character begins.
     Character,
-    // A byte from `low` to `high`, and then `more` of 0x80 to 0xBF.
-    Bytes { low: u8, high: u8, more: u8 },
+    // A byte from the first to the second, and then the third's number of bytes from 0x80 to 0xBF.
+    Bytes(u8, u8, u8),
 }
 
 // What the first byte of a character asks for, by RFC 3629's table.
@@ -25,46 +25,14 @@ fn lead(b: u8) -> Due
 {
     match b {
         0x00..=0x7F => Due::Character,
-        0xC2..=0xDF => Due::Bytes {
-            low: 0x80,
-            high: 0xBF,
-            more: 0,
-        },
-        0xE0 => Due::Bytes {
-            low: 0xA0,
-            high: 0xBF,
-            more: 1,
-        },
-        0xE1..=0xEC => Due::Bytes {
-            low: 0x80,
-            high: 0xBF,
-            more: 1,
-        },
-        0xED => Due::Bytes {
-            low: 0x80,
-            high: 0x9F,
-            more: 1,
-        },
-        0xEE..=0xEF => Due::Bytes {
-            low: 0x80,
-            high: 0xBF,
-            more: 1,
-        },
-        0xF0 => Due::Bytes {
-            low: 0x90,
-            high: 0xBF,
-            more: 2,
-        },
-        0xF1..=0xF3 => Due::Bytes {
-            low: 0x80,
-            high: 0xBF,
-            more: 2,
-        },
-        0xF4 => Due::Bytes {
-            low: 0x80,
-            high: 0x8F,
-            more: 2,
-        },
+        0xC2..=0xDF => Due::Bytes(0x80, 0xBF, 0),
+        0xE0 => Due::Bytes(0xA0, 0xBF, 1),
+        0xE1..=0xEC => Due::Bytes(0x80, 0xBF, 1),
+        0xED => Due::Bytes(0x80, 0x9F, 1),
+        0xEE..=0xEF => Due::Bytes(0x80, 0xBF, 1),
+        0xF0 => Due::Bytes(0x90, 0xBF, 2),
+        0xF1..=0xF3 => Due::Bytes(0x80, 0xBF, 2),
+        0xF4 => Due::Bytes(0x80, 0x8F, 2),
         _ => Due::Never,
     }
 }
@@ -83,16 +51,12 @@ fn step(due: Due, b: u8) -> Due
     match due {
         Due::Never => Due::Never,
         Due::Character => lead(b),
-        Due::Bytes { low, high, more } => {
+        Due::Bytes(low, high, more) => {
             if follows(b, low, high) {
                 if more == 0 {
                     return Due::Character;
                 }
-                return Due::Bytes {
-                    low: 0x80,
-                    high: 0xBF,
-                    more: more - 1,
-                };
+                return Due::Bytes(0x80, 0xBF, more - 1);
             }
             Due::Never
         }
@@ -106,11 +70,7 @@ fn settled(due: Due, n: usize) -> usize
     match due {
         Due::Never => 0,
         Due::Character => n,
-        Due::Bytes {
-            low: _,
-            high: _,
-            more: _,
-        } => 0,
+        Due::Bytes(_, _, _) => 0,
     }
 }
 

@@ -1,7 +1,7 @@
 -- `pe::given_at` meets its contract: the refusal of the shape, none past the last, or else a header.
 -- Assumes nothing.
 use mathlib.Core.Path.{_≡_, sym, ap, _∙_}
-use mathlib.Core.Option.{none, some}
+use mathlib.Core.Option.{none}
 use denote.Ref.{now}
 use Rattle.lent.specs.Paper.{number, toldChecked}
 use Rattle.lent.specs.Table.{sectionShape}

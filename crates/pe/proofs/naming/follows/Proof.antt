@@ -3,8 +3,6 @@
 use borrow.Author.Tests.{le-leb, lt-leb}
 use Rattle.pe.proofs.naming.follows.Statement.{statement}
 use Rattle.pe.proofs.naming.follows.Tie as tie
-use Rattle.pe.proofs.naming.follows.Reads as reads
-use Rattle.pe.proofs.naming.follows.Lts as lts
 
 returns : tie.Need-returns
 returns c = rw (le-leb (c .before .args .low) (c .before .args .b) (c .if1 .taken))

@@ -1,20 +1,14 @@
 -- `pe::held_length` meets its contract: what is due and what is left of the name tell as much as the whole of it.
 -- Assumes nothing.
-use mathlib.Core.Path.{_≡_, refl, sym, ap, _∙_}
-use Prim.Native.Nat.{ℕ, _+_, _-_}
+use mathlib.Core.Path.{_≡_, _∙_}
+use Prim.Native.Nat.{_+_, _-_}
 use native.Mathlib.Omega.{arith}
-use lib.ListN.{length}
 use denote.Ref.{now}
 use Rattle.pe.specs.Due.{toldDue}
-use Rattle.pe.specs.Name.{ifUtf8}
 use Rattle.pe.proofs.Reading.{Reading, reading-first, reading-more, reading-zero, reading-end, eight-left}
 use borrow.Author.Needs.{needs}
 use Rattle.pe.proofs.naming.held_length.Statement.{statement}
 use Rattle.pe.proofs.naming.held_length.Tie as tie
-use Rattle.pe.proofs.naming.held_length.Reads as reads
-use Rattle.pe.proofs.naming.held_length.Lts as lts
-use Rattle.pe.proofs.naming.settled.Reads as settled-reads
-use Rattle.pe.proofs.naming.step.Reads as step-reads
 
 abbrev Inv-loop : tie.InvT-loop
 Inv-loop table at end due₀ i₀ due i = Reading table end at (toldDue due) i

@@ -6,8 +6,6 @@ use Rattle.pe.specs.Utf8.{afterLead}
 use Rattle.pe.proofs.Leads.{led}
 use Rattle.pe.proofs.naming.lead.Statement.{statement}
 use Rattle.pe.proofs.naming.lead.Tie as tie
-use Rattle.pe.proofs.naming.lead.Reads as reads
-use Rattle.pe.proofs.naming.lead.Lts as lts
 
 returns : tie.Need-returns
 unfolding afterLead

@@ -1,9 +1,9 @@
 -- `pe::name` meets its contract: the name lies at the start of its header, as long as it is.
 -- Assumes nothing.
-use mathlib.Core.Path.{_≡_, sym, ap, _∙_}
-use Prim.Native.Nat.{ℕ, _+_, _-_, _*_}
+use mathlib.Core.Path.{_≡_, sym, _∙_}
+use Prim.Native.Nat.{_+_, _-_, _*_}
 use native.Mathlib.Omega.{arith}
-use lib.ListN.{length, take, drop}
+use lib.ListN.{length}
 use denote.Ref.{now}
 use Rattle.pe.specs.Name.{nameSpec}
 use Rattle.pe.proofs.Names.{lies, no-length}

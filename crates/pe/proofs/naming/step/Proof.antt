@@ -6,10 +6,6 @@ use Rattle.pe.proofs.Leads.{tails-more}
 use borrow.Author.Needs.{needs}
 use Rattle.pe.proofs.naming.step.Statement.{statement}
 use Rattle.pe.proofs.naming.step.Tie as tie
-use Rattle.pe.proofs.naming.step.Reads as reads
-use Rattle.pe.proofs.naming.step.Lts as lts
-use Rattle.pe.proofs.naming.follows.Reads as follows-reads
-use Rattle.pe.proofs.naming.lead.Reads as lead-reads
 
 enum-told : tie.Need-enum-told
 enum-told c = search needs

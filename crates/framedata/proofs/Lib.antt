@@ -1,0 +1,9 @@
+pub mod Bits
+pub mod Framing
+pub mod Picking
+pub mod Entering
+pub mod Merging
+pub mod Iteration
+pub mod Determined
+pub mod Cases
+pub mod Entry

@@ -1,0 +1,141 @@
+-- What merging two lists of records keeps: every new record, every old one that is not passed over, and the order.
+-- Assumes nothing.
+use mathlib.Core.Path.{_≡_, refl, sym, ap, subst}
+use mathlib.Core.Logic.{⊎-elim}
+use Prim.Native.Nat.{ℕ, _≤_, _<_}
+use native.Mathlib.Omega.{arith}
+use mathlib.Core.Bool.{Bool, true}
+use mathlib.Core.List.{List, [], _∷_, map}
+use lib.Dec.{ltb}
+use borrow.Author.Tests.{lt-ltb, ltb-true, eq-eqb}
+use Rattle.lent.specs.Order.{risingAfter, rising}
+use Rattle.lent.proofs.Rising.{after-rising}
+use Rattle.lent.proofs.Logic.{lt-or-le, and-left, and-right}
+use Rattle.framedata.specs.Records.{OldFrame, NewFrame}
+use Rattle.framedata.specs.Frame.{fromOld, fromNew}
+use Rattle.framedata.specs.Step.{Pick, old, new, both, lesser}
+use Rattle.framedata.specs.Merge.{followed, merge, startsOf, newsOf, oldsOf, passedOnEquality}
+use Rattle.framedata.proofs.Picking.{old-lesser, new-lesser, equal}
+
+-- to show a thing of the lesser of two records, show it in three cases
+pub by-lesser : (P : Pick → Type 0) (o : OldFrame) (n : NewFrame)
+    → (o .codeStart < n .codeStart → P (old o)) → (n .codeStart < o .codeStart → P (new n)) → (n .codeStart ≡ o .codeStart → P (both n o)) → P (lesser o n)
+by-lesser P o n below above same =
+    ⊎-elim
+    (λ (h : o .codeStart < n .codeStart). subst P (sym (old-lesser o n h)) (below h))
+    (λ (h : n .codeStart ≤ o .codeStart).
+    ⊎-elim
+    (λ (l : n .codeStart < o .codeStart). subst P (sym (new-lesser o n l)) (above l))
+    (λ (l : o .codeStart ≤ n .codeStart). let e : n .codeStart ≡ o .codeStart = omega arith in subst P (sym (equal o n e)) (same e))
+    (lt-or-le (n .codeStart) (o .codeStart)))
+    (lt-or-le (o .codeStart) (n .codeStart))
+
+abbrev pub oldStarts : List OldFrame → List ℕ
+oldStarts os = map (λ (o : OldFrame). o .codeStart) os
+
+abbrev pub newStarts : List NewFrame → List ℕ
+newStarts ns = map (λ (n : NewFrame). n .codeStart) ns
+
+-- the first number, if there is one, is greater than x
+abbrev startsAfter : ℕ → List ℕ → Bool
+startsAfter x [] = true
+startsAfter x (y ∷ l) = ltb x y
+
+-- to show a thing of a merge, show it of no records, and that it is kept by each kind of pick
+by-merge : (P : List OldFrame → List NewFrame → List Pick → Type 0)
+    → P [] [] []
+    → ((o : OldFrame) (os : List OldFrame) (ns : List NewFrame) (l : List Pick) → startsAfter (o .codeStart) (newStarts ns) ≡ true → P os ns l → P (o ∷ os) ns (old o ∷ l))
+    → ((n : NewFrame) (os : List OldFrame) (ns : List NewFrame) (l : List Pick) → startsAfter (n .codeStart) (oldStarts os) ≡ true → P os ns l → P os (n ∷ ns) (new n ∷ l))
+    → ((n : NewFrame) (o : OldFrame) (os : List OldFrame) (ns : List NewFrame) (l : List Pick) → n .codeStart ≡ o .codeStart → P os ns l → P (o ∷ os) (n ∷ ns) (both n o ∷ l))
+    → (os : List OldFrame) (ns : List NewFrame) → P os ns (merge os ns)
+unfolding merge
+by-merge P none one two three [] [] = none
+by-merge P none one two three [] (n ∷ ns) = two n [] ns (merge [] ns) refl (by-merge P none one two three [] ns)
+by-merge P none one two three (o ∷ os) [] = one o os [] (merge os []) refl (by-merge P none one two three os [])
+by-merge P none one two three (o ∷ os) (n ∷ ns) =
+    by-lesser (λ (p : Pick). P (o ∷ os) (n ∷ ns) (followed p (merge os (n ∷ ns)) (merge (o ∷ os) ns) (merge os ns))) o n
+    (λ h. one o os (n ∷ ns) (merge os (n ∷ ns)) (lt-ltb (o .codeStart) (n .codeStart) h) (by-merge P none one two three os (n ∷ ns)))
+    (λ h. two n (o ∷ os) ns (merge (o ∷ os) ns) (lt-ltb (n .codeStart) (o .codeStart) h) (by-merge P none one two three (o ∷ os) ns))
+    (λ e. three n o os ns (merge os ns) e (by-merge P none one two three os ns))
+
+-- every new record is yielded, once and in order
+pub every-new : (os : List OldFrame) (ns : List NewFrame) → newsOf (merge os ns) ≡ ns
+unfolding newsOf
+every-new =
+    by-merge (λ os ns l. newsOf l ≡ ns) refl
+    (λ o os ns l h k. k)
+    (λ n os ns l h k. ap (λ (m : List NewFrame). n ∷ m) k)
+    (λ n o os ns l e k. ap (λ (m : List NewFrame). n ∷ m) k)
+
+-- every old record is yielded or passed over, once and in order
+pub every-old : (os : List OldFrame) (ns : List NewFrame) → oldsOf (merge os ns) ≡ os
+unfolding oldsOf
+every-old =
+    by-merge (λ os ns l. oldsOf l ≡ os) refl
+    (λ o os ns l h k. ap (λ (m : List OldFrame). o ∷ m) k)
+    (λ n os ns l h k. k)
+    (λ n o os ns l e k. ap (λ (m : List OldFrame). o ∷ m) k)
+
+-- and it is passed over only for a new one with its code_start
+pub passed-on-equality : (os : List OldFrame) (ns : List NewFrame) → passedOnEquality (merge os ns) ≡ true
+unfolding passedOnEquality
+passed-on-equality =
+    by-merge (λ os ns l. passedOnEquality l ≡ true) refl
+    (λ o os ns l h k. k)
+    (λ n os ns l h k. k)
+    (λ n o os ns l e k. rw (eq-eqb (n .codeStart) (o .codeStart) e) k)
+
+module _ (p x : ℕ) (l : List ℕ) where
+  up : risingAfter p (x ∷ l) ≡ true → p < x
+  unfolding risingAfter
+  up r = ltb-true p x (and-left (ltb p x) (risingAfter x l) r)
+
+  on : risingAfter p (x ∷ l) ≡ true → risingAfter x l ≡ true
+  unfolding risingAfter
+  on r = and-right (ltb p x) (risingAfter x l) r
+
+  put : p < x → risingAfter x l ≡ true → risingAfter p (x ∷ l) ≡ true
+  unfolding risingAfter
+  put h r = rw (lt-ltb p x h) r
+
+after-first : (x : ℕ) (l : List ℕ) → startsAfter x l ≡ true → rising l ≡ true → risingAfter x l ≡ true
+unfolding rising risingAfter
+after-first x [] h r = refl
+after-first x (y ∷ l) h r = put x y l (ltb-true x y h) r
+
+-- the code starts rise, and do so after any p that both lists rise after
+pub record Rises (os : List OldFrame) (ns : List NewFrame) (l : List Pick) : Type 0 where
+  pub after : (p : ℕ) → risingAfter p (oldStarts os) ≡ true → risingAfter p (newStarts ns) ≡ true → risingAfter p (startsOf l) ≡ true
+  pub whole : rising (oldStarts os) ≡ true → rising (newStarts ns) ≡ true → rising (startsOf l) ≡ true
+
+rises-old : (o : OldFrame) (os : List OldFrame) (ns : List NewFrame) (l : List Pick) → startsAfter (o .codeStart) (newStarts ns) ≡ true → Rises os ns l → Rises (o ∷ os) ns (old o ∷ l)
+unfolding rising fromOld
+rises-old o os ns l h k =
+    let x = o .codeStart in
+    record {
+      after = λ p r q. put p x (startsOf l) (up p x (oldStarts os) r) (k .after x (on p x (oldStarts os) r) (after-first x (newStarts ns) h (after-rising p (newStarts ns) q)));
+      whole = λ r q. k .after x r (after-first x (newStarts ns) h q);
+    }
+
+rises-new : (n : NewFrame) (os : List OldFrame) (ns : List NewFrame) (l : List Pick) → startsAfter (n .codeStart) (oldStarts os) ≡ true → Rises os ns l → Rises os (n ∷ ns) (new n ∷ l)
+unfolding rising fromNew
+rises-new n os ns l h k =
+    let x = n .codeStart in
+    record {
+      after = λ p r q. put p x (startsOf l) (up p x (newStarts ns) q) (k .after x (after-first x (oldStarts os) h (after-rising p (oldStarts os) r)) (on p x (newStarts ns) q));
+      whole = λ r q. k .after x (after-first x (oldStarts os) h r) q;
+    }
+
+rises-both : (n : NewFrame) (o : OldFrame) (os : List OldFrame) (ns : List NewFrame) (l : List Pick) → n .codeStart ≡ o .codeStart → Rises os ns l → Rises (o ∷ os) (n ∷ ns) (both n o ∷ l)
+unfolding rising fromNew
+rises-both n o os ns l e k =
+    let x = n .codeStart in
+    let olds : risingAfter (o .codeStart) (oldStarts os) ≡ true → risingAfter x (oldStarts os) ≡ true = subst (λ (y : ℕ). risingAfter y (oldStarts os) ≡ true) (sym e) in
+    record {
+      after = λ p r q. put p x (startsOf l) (up p x (newStarts ns) q) (k .after x (olds (on p (o .codeStart) (oldStarts os) r)) (on p x (newStarts ns) q));
+      whole = λ r q. k .after x (olds r) q;
+    }
+
+-- where both lists rise strictly, so do the code starts that are yielded
+pub merge-rises : (os : List OldFrame) (ns : List NewFrame) → rising (oldStarts os) ≡ true → rising (newStarts ns) ≡ true → rising (startsOf (merge os ns)) ≡ true
+merge-rises os ns = by-merge Rises (record { after = λ p r q. r; whole = λ r q. r }) rises-old rises-new rises-both os ns .whole

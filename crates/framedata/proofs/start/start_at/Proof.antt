@@ -1,0 +1,63 @@
+-- `framedata::start_at` meets its contract: 1, 2, 3 of either table, or the place in each.
+-- Assumes nothing.
+use mathlib.Core.Path.{_≡_, sym, ap, _∙_}
+use mathlib.Core.Option.{none, some}
+use native.Mathlib.Omega.{arith}
+use denote.Ref.{now}
+use Rattle.lent.specs.Paper.{number, toldChecked}
+use Rattle.framedata.specs.Start.{faultOfBoth, startSpec}
+use Rattle.framedata.proofs.Entering.{both-good}
+use borrow.Author.Needs.{needs}
+use Rattle.framedata.proofs.start.start_at.Statement.{statement}
+use Rattle.framedata.proofs.start.start_at.Tie as tie
+
+held-requires : tie.Need-held-requires
+held-requires c κs = search needs
+
+held-requires-2 : tie.Need-held-requires-2
+held-requires-2 c κs = search needs
+
+checks-requires : tie.Need-checks-requires
+checks-requires c κs = search needs
+
+enum-known-checked : tie.Need-enum-known-checked
+enum-known-checked c = search needs
+
+returns : tie.Need-returns
+unfolding startSpec
+returns c =
+    let e : some (number (c .before .checked .given .0 .0)) ≡ faultOfBoth (now (c .before .before .before .before .before .held .result)) (now (c .before .before .before .before .held2 .result))
+    = sym (ap toldChecked (c .before .checked .given .1)) ∙ c .before .before .before .checks .ensures in
+    rw (← (c .before .before .before .before .before .held .ensures), ← (c .before .before .before .before .held2 .ensures), ← e)
+
+enum-told : tie.Need-enum-told
+enum-told c = search needs
+
+-- past the checks, neither table is refused
+good : (c : tie.After-enum-told) → none ≡ faultOfBoth (now (c .before .before .before .before .held .result)) (now (c .before .before .before .held2 .result))
+good c = sym (ap toldChecked (c .enum-told .given .1)) ∙ c .before .before .checks .ensures
+
+place-at-requires : tie.Need-place-at-requires
+place-at-requires c κs = (omega arith, both-good (now (c .before .before .before .before .held .result)) (now (c .before .before .before .held2 .result)) (good c) .0)
+
+place-at-requires-2 : tie.Need-place-at-requires-2
+place-at-requires-2 c κs = (omega arith, both-good (now (c .before .before .before .before .before .held .result)) (now (c .before .before .before .before .held2 .result)) (good (c .before)) .1)
+
+returns-2 : tie.Need-returns-2
+unfolding startSpec
+returns-2 c =
+    rw (← (c .before .before .before .before .before .before .held .ensures), ← (c .before .before .before .before .before .held2 .ensures), ← (good (c .before .before)), c .before .place-at .ensures, c .place-at2 .ensures)
+
+pub start-at-spec : {M : Type 1} → statement M
+start-at-spec =
+    tie.close
+    (tie.spec
+    held-requires
+    held-requires-2
+    checks-requires
+    enum-known-checked
+    returns
+    enum-told
+    place-at-requires
+    place-at-requires-2
+    returns-2)

@@ -1,0 +1,81 @@
+-- `framedata::is_empty` meets its contract: 1 and 2 of either table, or whether both have no record.
+-- Assumes nothing.
+use mathlib.Core.Path.{_≡_, sym, ap, _∙_}
+use mathlib.Core.Option.{none, some}
+use mathlib.Core.Bool.{false, _&&_}
+use Prim.Native.Nat.{_/_}
+use lib.ListN.{length}
+use lib.Dec.{eqb}
+use borrow.Author.Tests.{eq-eqb, ne-eqb}
+use native.Mathlib.Omega.{arith}
+use denote.Ref.{now}
+use Rattle.lent.specs.Paper.{value, number, toldChecked}
+use Rattle.lent.specs.Table.{held}
+use Rattle.framedata.specs.Tables.{shapeOfBoth, emptySpec}
+use borrow.Author.Needs.{needs}
+use Rattle.framedata.proofs.tables.is_empty.Statement.{statement}
+use Rattle.framedata.proofs.tables.is_empty.Tie as tie
+
+held-requires : tie.Need-held-requires
+held-requires c κs = search needs
+
+held-requires-2 : tie.Need-held-requires-2
+held-requires-2 c κs = search needs
+
+shapes-requires : tie.Need-shapes-requires
+shapes-requires c κs = search needs
+
+enum-known-shaped : tie.Need-enum-known-shaped
+enum-known-shaped c = search needs
+
+returns : tie.Need-returns
+unfolding emptySpec
+returns c =
+    let e : some (number (c .before .shaped .given .0 .0)) ≡ shapeOfBoth (now (c .before .before .before .before .before .held .result)) (now (c .before .before .before .before .held2 .result))
+    = sym (ap toldChecked (c .before .shaped .given .1)) ∙ c .before .before .before .shapes .ensures in
+    rw (← (c .before .before .before .before .before .held .ensures), ← (c .before .before .before .before .held2 .ensures), ← e)
+
+enum-told : tie.Need-enum-told
+enum-told c = search needs
+
+-- past the test of both shapes, the numbers of records decide
+decided : (c : tie.After-enum-told) →
+    let a = c .before .before .before .before .before .before .before .args in
+    value (eqb (length (now (c .before .before .before .before .held .result)) / 16) 0 && eqb (length (now (c .before .before .before .held2 .result)) / 32) 0)
+    ≡ emptySpec (held (a .old-present) (now (a .old))) (held (a .new-present) (now (a .new)))
+unfolding emptySpec
+decided c =
+    let good : none ≡ shapeOfBoth (now (c .before .before .before .before .held .result)) (now (c .before .before .before .held2 .result)) = sym (ap toldChecked (c .enum-told .given .1)) ∙ c .before .before .shapes .ensures in
+    rw (← (c .before .before .before .before .held .ensures), ← (c .before .before .before .held2 .ensures), ← good)
+
+returns-2 : tie.Need-returns-2
+returns-2 c =
+    let n = length (now (c .before .before .before .before .before .held .result)) / 16 in
+    let e : eqb n 0 ≡ false = ne-eqb n 0 (c .if1 .taken) in
+    rw (← (decided (c .before)), e)
+
+returns-3 : tie.Need-returns-3
+returns-3 c =
+    let n = length (now (c .before .before .before .before .before .before .held .result)) / 16 in
+    let m = length (now (c .before .before .before .before .before .held2 .result)) / 32 in
+    rw (← (decided (c .before .before)), eq-eqb n 0 (omega arith), ne-eqb m 0 (c .if2 .taken))
+
+returns-4 : tie.Need-returns-4
+returns-4 c =
+    let n = length (now (c .before .before .before .before .before .before .held .result)) / 16 in
+    let m = length (now (c .before .before .before .before .before .held2 .result)) / 32 in
+    rw (← (decided (c .before .before)), eq-eqb n 0 (omega arith), eq-eqb m 0 (omega arith))
+
+pub is-empty-spec : {M : Type 1} → statement M
+is-empty-spec =
+    tie.close
+    (tie.spec
+    held-requires
+    held-requires-2
+    shapes-requires
+    enum-known-shaped
+    returns
+    enum-told
+    returns-2
+    returns-3
+    returns-4)

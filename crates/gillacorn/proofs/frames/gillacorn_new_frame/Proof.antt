@@ -1,0 +1,23 @@
+-- `gillacorn::frames::gillacorn_new_frame` meets its contract: the answer of the library, as the face shows it.
+-- Assumes nothing.
+use mathlib.Core.Path.{_≡_, refl, sym, ap, _∙_}
+use Rattle.gillacorn.specs.Frames.{frameAnswer}
+use borrow.Author.Needs.{needs}
+use Rattle.gillacorn.proofs.frames.gillacorn_new_frame.Statement.{statement}
+use Rattle.gillacorn.proofs.frames.gillacorn_new_frame.Tie as tie
+use Rattle.gillacorn.proofs.frames.gillacorn_new_frame.Reads as reads
+use Rattle.gillacorn.proofs.frames.gillacorn_new_frame.Lts as lts
+use Rattle.framedata.proofs.new_frame_at.Reads as new-frame-at-reads
+use Rattle.gillacorn.proofs.frames.framed_of.Reads as framed-of-reads
+
+new-frame-at-requires : tie.Need-new-frame-at-requires
+new-frame-at-requires c κs = search needs
+
+framed-of-requires : tie.Need-framed-of-requires
+framed-of-requires c κs = search needs
+
+returns : tie.Need-returns
+returns c = c .framed-of .ensures ∙ ap frameAnswer (c .before .new-frame-at .ensures)
+
+pub gillacorn-new-frame-spec : {M : Type 1} → statement M
+gillacorn-new-frame-spec = tie.close (tie.spec new-frame-at-requires framed-of-requires returns)

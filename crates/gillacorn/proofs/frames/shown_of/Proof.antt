@@ -1,0 +1,42 @@
+-- `gillacorn::frames::shown_of` meets its contract: field by field.
+-- Assumes nothing.
+use mathlib.Core.Path.{_≡_, refl, sym, ap, _∙_}
+use borrow.Author.Needs.{needs}
+use Rattle.gillacorn.proofs.frames.shown_of.Statement.{statement}
+use Rattle.gillacorn.proofs.frames.shown_of.Tie as tie
+use Rattle.gillacorn.proofs.frames.shown_of.Reads as reads
+use Rattle.gillacorn.proofs.frames.shown_of.Lts as lts
+use Rattle.gillacorn.proofs.frames.has_program.Reads as has-program-reads
+use Rattle.gillacorn.proofs.frames.has_stack.Reads as has-stack-reads
+use Rattle.gillacorn.proofs.frames.program_of.Reads as program-of-reads
+use Rattle.gillacorn.proofs.frames.stack_of.Reads as stack-of-reads
+use Rattle.gillacorn.proofs.frames.type_of.Reads as type-of-reads
+
+type-of-requires : tie.Need-type-of-requires
+type-of-requires c κs = search needs
+
+has-stack-requires : tie.Need-has-stack-requires
+has-stack-requires c κs = search needs
+
+has-program-requires : tie.Need-has-program-requires
+has-program-requires c κs = search needs
+
+stack-of-requires : tie.Need-stack-of-requires
+stack-of-requires c κs = search needs
+
+program-of-requires : tie.Need-program-of-requires
+program-of-requires c κs = search needs
+
+returns : tie.Need-returns
+returns c = rw (c .before .before .before .before .type-of .ensures, c .before .before .before .has-stack .ensures, c .before .before .has-program .ensures, c .before .stack-of .ensures, c .program-of .ensures)
+
+pub shown-of-spec : {M : Type 1} → statement M
+shown-of-spec =
+    tie.close
+    (tie.spec
+    type-of-requires
+    has-stack-requires
+    has-program-requires
+    stack-of-requires
+    program-of-requires
+    returns)

@@ -1,0 +1,32 @@
+-- `gillacorn::frames::starting_of` meets its contract: case by case.
+-- Assumes nothing.
+use mathlib.Core.Path.{_≡_, refl, sym, ap, _∙_}
+use Rattle.framedata.specs.declared.start.FrameStarted.{FrameStarted}
+use Rattle.framedata.specs.Start.{toldStarted}
+use Rattle.gillacorn.specs.Frames.{startingOf}
+use borrow.Author.Needs.{needs}
+use Rattle.gillacorn.proofs.frames.starting_of.Statement.{statement}
+use Rattle.gillacorn.proofs.frames.starting_of.Tie as tie
+use Rattle.gillacorn.proofs.frames.starting_of.Reads as reads
+use Rattle.gillacorn.proofs.frames.starting_of.Lts as lts
+use Rattle.gillacorn.proofs.code.number_of.Reads as number-of-reads
+
+enum-known-started : tie.Need-enum-known-started
+enum-known-started c = search needs
+
+enum-known-started-2 : tie.Need-enum-known-started-2
+enum-known-started-2 c = search needs
+
+number-of-requires : tie.Need-number-of-requires
+number-of-requires c κs = search needs
+
+returns : tie.Need-returns
+returns c = sym (ap (λ (t : FrameStarted). startingOf (toldStarted t)) (c .before .started .given .1))
+
+returns-2 : tie.Need-returns-2
+returns-2 c = rw (c .number-of .ensures) (sym (ap (λ (t : FrameStarted). startingOf (toldStarted t)) (c .before .before .started2 .given .1)))
+
+pub starting-of-spec : {M : Type 1} → statement M
+starting-of-spec =
+    tie.close
+    (tie.spec enum-known-started enum-known-started-2 number-of-requires returns returns-2)
