@@ -1,7 +1,8 @@
 -- What one place of one table answers, from plain facts.
 -- Assumes nothing.
-use mathlib.Core.Path.{_≡_}
+use mathlib.Core.Path.{_≡_, ap, _∙_}
 use Prim.Native.Nat.{ℕ, _*_, _≤_, _<_}
+use mathlib.Core.List.{List}
 use mathlib.Core.Option.{none, some}
 use borrow.Author.Tests.{lt-ltb, le-ltb, le-leb, lt-leb}
 use Rattle.lent.specs.Paper.{value, refused}
@@ -21,3 +22,7 @@ module _ {A : Type 0} (f : ℕ → A) (n i : ℕ) where
 
   pub used-up : n ≤ i → before n f i ≡ none
   used-up h = rw (le-ltb i n h)
+
+-- what is told of two tables is told of two equal ones
+pub of-both : {A : Type 0} (F : List ℕ → List ℕ → A) {s t u v : List ℕ} → s ≡ u → t ≡ v → F s t ≡ F u v
+of-both F {t = t} {u = u} p q = ap (λ (x : List ℕ). F x t) p ∙ ap (F u) q

@@ -4,12 +4,18 @@ use mathlib.Core.Path.{_≡_, sym, ap, _∙_}
 use mathlib.Core.Option.{none, some}
 use native.Mathlib.Omega.{arith}
 use denote.Ref.{now}
-use Rattle.lent.specs.Paper.{number, toldChecked}
+use Rattle.lent.specs.Paper.{value, refused, number, toldChecked}
 use Rattle.framedata.specs.Start.{faultOfBoth, startSpec}
+use Rattle.lent.specs.Table.{held}
+use Rattle.framedata.proofs.Framing.{of-both}
 use Rattle.framedata.proofs.Entering.{both-good}
 use borrow.Author.Needs.{needs}
 use Rattle.framedata.proofs.start.start_at.Statement.{statement}
 use Rattle.framedata.proofs.start.start_at.Tie as tie
+
+-- an answer over the tables as they are held is one over the tables behind their marks
+kept : (c : tie.After-checks) → startSpec (c .before .before .before .before .before .args .address) (now (c .before .before .held .result)) (now (c .before .held2 .result)) ≡ startSpec (c .before .before .before .before .before .args .address) (held (c .before .before .before .before .before .args .old-present) (now (c .before .before .before .before .before .args .old))) (held (c .before .before .before .before .before .args .new-present) (now (c .before .before .before .before .before .args .new)))
+kept c = of-both (startSpec (c .before .before .before .before .before .args .address)) (c .before .before .held .ensures) (c .before .held2 .ensures)
 
 held-requires : tie.Need-held-requires
 held-requires c κs = search needs
@@ -28,7 +34,8 @@ unfolding startSpec
 returns c =
     let e : some (number (c .before .checked .given .0 .0)) ≡ faultOfBoth (now (c .before .before .before .before .before .held .result)) (now (c .before .before .before .before .held2 .result))
     = sym (ap toldChecked (c .before .checked .given .1)) ∙ c .before .before .before .checks .ensures in
-    rw (← (c .before .before .before .before .before .held .ensures), ← (c .before .before .before .before .held2 .ensures), ← e)
+    let d : refused (number (c .before .checked .given .0 .0)) ≡ startSpec (c .before .before .before .before .before .before .before .before .args .address) (now (c .before .before .before .before .before .held .result)) (now (c .before .before .before .before .held2 .result)) = rw (← e) in
+    d ∙ kept (c .before .before .before)
 
 enum-told : tie.Need-enum-told
 enum-told c = search needs
@@ -46,7 +53,9 @@ place-at-requires-2 c κs = (omega arith, both-good (now (c .before .before .bef
 returns-2 : tie.Need-returns-2
 unfolding startSpec
 returns-2 c =
-    rw (← (c .before .before .before .before .before .before .held .ensures), ← (c .before .before .before .before .before .held2 .ensures), ← (good (c .before .before)), c .before .place-at .ensures, c .place-at2 .ensures)
+    let d : value (record { «old_index» = c .before .place-at .result; «new_index» = c .place-at2 .result }) ≡ startSpec (c .before .before .before .before .before .before .before .before .before .args .address) (now (c .before .before .before .before .before .before .held .result)) (now (c .before .before .before .before .before .held2 .result))
+    = rw (← (good (c .before .before)), c .before .place-at .ensures, c .place-at2 .ensures) in
+    d ∙ kept (c .before .before .before .before)
 
 pub start-at-spec : {M : Type 1} → statement M
 start-at-spec =

@@ -9,12 +9,17 @@ use lib.Dec.{eqb}
 use borrow.Author.Tests.{eq-eqb, ne-eqb}
 use native.Mathlib.Omega.{arith}
 use denote.Ref.{now}
-use Rattle.lent.specs.Paper.{value, number, toldChecked}
+use Rattle.lent.specs.Paper.{value, refused, number, toldChecked}
 use Rattle.lent.specs.Table.{held}
 use Rattle.framedata.specs.Tables.{shapeOfBoth, emptySpec}
+use Rattle.framedata.proofs.Framing.{of-both}
 use borrow.Author.Needs.{needs}
 use Rattle.framedata.proofs.tables.is_empty.Statement.{statement}
 use Rattle.framedata.proofs.tables.is_empty.Tie as tie
+
+-- an answer over the tables as they are held is one over the tables behind their marks
+kept : (c : tie.After-shapes) → emptySpec (now (c .before .before .held .result)) (now (c .before .held2 .result)) ≡ emptySpec (held (c .before .before .before .before .before .args .old-present) (now (c .before .before .before .before .before .args .old))) (held (c .before .before .before .before .before .args .new-present) (now (c .before .before .before .before .before .args .new)))
+kept c = of-both emptySpec (c .before .before .held .ensures) (c .before .held2 .ensures)
 
 held-requires : tie.Need-held-requires
 held-requires c κs = search needs
@@ -33,7 +38,8 @@ unfolding emptySpec
 returns c =
     let e : some (number (c .before .shaped .given .0 .0)) ≡ shapeOfBoth (now (c .before .before .before .before .before .held .result)) (now (c .before .before .before .before .held2 .result))
     = sym (ap toldChecked (c .before .shaped .given .1)) ∙ c .before .before .before .shapes .ensures in
-    rw (← (c .before .before .before .before .before .held .ensures), ← (c .before .before .before .before .held2 .ensures), ← e)
+    let d : refused (number (c .before .shaped .given .0 .0)) ≡ emptySpec (now (c .before .before .before .before .before .held .result)) (now (c .before .before .before .before .held2 .result)) = rw (← e) in
+    d ∙ kept (c .before .before .before)
 
 enum-told : tie.Need-enum-told
 enum-told c = search needs
@@ -46,7 +52,8 @@ decided : (c : tie.After-enum-told) →
 unfolding emptySpec
 decided c =
     let good : none ≡ shapeOfBoth (now (c .before .before .before .before .held .result)) (now (c .before .before .before .held2 .result)) = sym (ap toldChecked (c .enum-told .given .1)) ∙ c .before .before .shapes .ensures in
-    rw (← (c .before .before .before .before .held .ensures), ← (c .before .before .before .held2 .ensures), ← good)
+    let d : value (eqb (length (now (c .before .before .before .before .held .result)) / 16) 0 && eqb (length (now (c .before .before .before .held2 .result)) / 32) 0) ≡ emptySpec (now (c .before .before .before .before .held .result)) (now (c .before .before .before .held2 .result)) = rw (← good) in
+    d ∙ kept (c .before .before)
 
 returns-2 : tie.Need-returns-2
 returns-2 c =

@@ -8,19 +8,24 @@ use Prim.Native.Nat.{ℕ, _<_, _/_}
 use lib.ListN.{length}
 use native.Mathlib.Omega.{arith}
 use denote.Ref.{now}
-use Rattle.lent.specs.Paper.{number, toldChecked}
+use Rattle.lent.specs.Paper.{refused, number, toldChecked}
 use Rattle.lent.specs.Table.{held}
 use Rattle.framedata.specs.Records.{oldRecord, newRecord, oldAt, newAt}
 use Rattle.framedata.specs.Frame.{toldDecoded}
 use Rattle.framedata.specs.Tables.{shapeOfBoth}
-use Rattle.framedata.specs.Step.{Pick, Stepped, pick, yielded, stepSpec, toldNext}
+use Rattle.framedata.specs.Step.{Pick, Stepped, pick, handed, yielded, stepSpec, toldNext}
 use Rattle.framedata.specs.declared.cursor.FrameCursor.{FrameCursor}
 use Rattle.framedata.specs.declared.cursor.Next.{Next}
 use Rattle.framedata.specs.declared.cursor.Next.the-variants as next
+use Rattle.framedata.proofs.Framing.{of-both}
 use Rattle.framedata.proofs.Picking.{takesOld, takesNew, old-inside, new-inside}
 use borrow.Author.Needs.{needs}
 use Rattle.framedata.proofs.cursor.FrameCursor.step.Statement.{statement}
 use Rattle.framedata.proofs.cursor.FrameCursor.step.Tie as tie
+
+-- an answer over the tables as they are held is one over the tables behind their marks
+kept : (c : tie.After-shapes) → stepSpec (now (c .before .before .held .result)) (now (c .before .held2 .result)) (c .before .before .before .before .before .args .self) ≡ stepSpec (held (c .before .before .before .before .before .args .old-present) (now (c .before .before .before .before .before .args .old))) (held (c .before .before .before .before .before .args .new-present) (now (c .before .before .before .before .before .args .new))) (c .before .before .before .before .before .args .self)
+kept c = of-both (λ (s t : List ℕ). stepSpec s t (c .before .before .before .before .before .args .self)) (c .before .before .held .ensures) (c .before .held2 .ensures)
 
 -- the cursor, the tables as they are held, and the step that is asked for
 abbrev at : tie.After-lesser → FrameCursor
@@ -51,7 +56,8 @@ decided : (c : tie.After-lesser) (q : Next) → c .lesser .result ≡ q → yiel
 unfolding stepSpec
 decided c q e =
     let good : none ≡ shapeOfBoth (olds c) (news c) = sym (ap toldChecked (c .before .enum-told .given .1)) ∙ c .before .before .before .shapes .ensures in
-    rw (← (c .before .before .before .before .before .held .ensures), ← (c .before .before .before .before .held2 .ensures), ← good, next-is c q e)
+    let d : yielded (at c) (found c q) ≡ stepSpec (olds c) (news c) (at c) = rw (← good, next-is c q e) in
+    d ∙ kept (c .before .before .before)
 
 -- a record that is next lies inside its table
 old-here : (c : tie.After-lesser) (q : Next) (p : Pick) → c .lesser .result ≡ q → found c q ≡ some p → takesOld p ≡ true → at c .«old_index» < length (olds c) / 16
@@ -79,7 +85,8 @@ unfolding stepSpec
 returns c =
     let e : some (number (c .before .shaped .given .0 .0)) ≡ shapeOfBoth (now (c .before .before .before .before .before .held .result)) (now (c .before .before .before .before .held2 .result))
     = sym (ap toldChecked (c .before .shaped .given .1)) ∙ c .before .before .before .shapes .ensures in
-    rw (← (c .before .before .before .before .before .held .ensures), ← (c .before .before .before .before .held2 .ensures), ← e)
+    let d : handed (c .before .before .before .before .before .before .before .before .args .self) (c .before .before .before .before .before .before .before .before .args .self) (refused (number (c .before .shaped .given .0 .0))) ≡ stepSpec (now (c .before .before .before .before .before .held .result)) (now (c .before .before .before .before .held2 .result)) (c .before .before .before .before .before .before .before .before .args .self) = rw (← e) in
+    d ∙ kept (c .before .before .before)
 
 enum-told : tie.Need-enum-told
 enum-told c = search needs
