@@ -1,2 +1,4 @@
 pub mod Walks
 pub mod Then
+pub mod RoundTrip
+pub mod Determined

@@ -8,6 +8,7 @@ ghost use Rattle.address_map.specs.Paths.{actual, crossLocate, placeCros
 ghost use Rattle.address_map.specs.Answers.{toldRva, toldInternalRva, toldOffset, toldInternalOffset, offsetOf, internalOffsetOf};
 
 pub mod paths;
+pub mod ranges;
 pub mod sections;
 
 use lent::Refusal;

@@ -1,23 +1,23 @@
 -- Demand 2: the pieces of a window, written out, are the single translations of its addresses, in order, holes left out.
 -- Assumes nothing.
-use mathlib.Core.Path.{_≡_, refl, sym, ap, _∙_, subst}
+use mathlib.Core.Path.{_≡_, refl, sym, ap, _∙_}
 use mathlib.Core.Logic.{_⊎_, inl, inr, ⊎-elim}
-use Prim.Native.Nat.{ℕ, zero, suc, _+_, _-_, _*_, _/_, _≤_, _<_, max, min}
+use Prim.Native.Nat.{ℕ, zero, suc, _+_, _-_, _≤_, _<_, max, min}
 use native.Mathlib.Omega.{arith}
 use native.Mathlib.Nat.{eq-zero-or-pos}
-use mathlib.Core.Bool.{Bool, true, false, cond, not, _&&_}
-use mathlib.Core.List.{List, [], _∷_, _++_, append-assoc}
+use mathlib.Core.Bool.{true, cond}
+use mathlib.Core.List.{List, [], _∷_, _++_}
 use mathlib.Core.Option.{Option, none, some}
-use lib.Dec.{ltb, leb, eqb}
-use borrow.Author.Tests.{le-leb, lt-leb, ltb-true, ltb-false, eq-eqb, ne-eqb}
+use lib.Dec.{leb}
+use borrow.Author.Tests.{le-leb, lt-leb, eq-eqb, ne-eqb}
 use Rattle.lent.specs.Order.{risingAfter, rising}
 use Rattle.lent.proofs.Rising.{after-rising}
 use Rattle.omap.specs.Records.{Entry, records, sources, omapFault, orElse, lastAt, moved, single}
-use Rattle.omap.specs.Window.{Piece, nextOf, pieceOf, put, pieces}
+use Rattle.omap.specs.Window.{Piece, nextOf, put, pieces}
 use Rattle.omap.specs.Expand.{upFrom, range, mapMaybe, expand, total}
 use lib.ListN.{length, length-append}
-use Rattle.omap.proofs.Last.{sources-keys, in-order}
-use Rattle.lent.proofs.Logic.{lt-or-le, and-left, and-right}
+use Rattle.lent.proofs.Logic.{lt-or-le}
+use Rattle.omap.proofs.Last.{sources-keys, in-order, first-above, rest-above}
 use Rattle.omap.proofs.Pieces.{piece-empty, piece-zero, piece-some}
 
 -- numbers from a on, in two runs
@@ -70,13 +70,12 @@ module _ (f : ℕ → Option ℕ) where
       rw (h a (omega arith) (omega arith), map-same g n (suc a) (λ d l m. h d (omega arith) (omega arith)))
 
 -- no record after p is at or below an address of at most p
-above-none : (p d : ℕ) (l : List Entry) → risingAfter p (sources l) ≡ true → d ≤ p → lastAt d l ≡ none
-unfolding risingAfter lastAt orElse
+pub above-none : (p d : ℕ) (l : List Entry) → risingAfter p (sources l) ≡ true → d ≤ p → lastAt d l ≡ none
+unfolding lastAt orElse
 above-none p d [] r h = refl
 above-none p d (x ∷ l) r h =
-    let up : p < x .source = ltb-true p (x .source) (and-left (ltb p (x .source)) (risingAfter (x .source) (sources l)) r) in
-    let on : risingAfter (x .source) (sources l) ≡ true = and-right (ltb p (x .source)) (risingAfter (x .source) (sources l)) r in
-    rw (above-none (x .source) d l on (omega arith), lt-leb (x .source) d (omega arith))
+    let up : p < x .source = first-above p x l r in
+    rw (above-none (x .source) d l (rest-above p x l r) (omega arith), lt-leb (x .source) d (omega arith))
 
 -- none before the first source
 before-none : (d : ℕ) (l : List Entry) → rising (sources l) ≡ true → d < nextOf l → lastAt d l ≡ none
@@ -84,7 +83,7 @@ unfolding rising lastAt orElse nextOf
 before-none d [] r h = refl
 before-none d (x ∷ l) r h = rw (above-none (x .source) d l r (omega arith), lt-leb (x .source) d h)
 
-or-some : {A : Type 0} (o : Option A) (y : A) (z : Option A) → orElse (orElse o (some y)) z ≡ orElse o (some y)
+pub or-some : {A : Type 0} (o : Option A) (y : A) (z : Option A) → orElse (orElse o (some y)) z ≡ orElse o (some y)
 unfolding orElse
 or-some none y z = refl
 or-some (some v) y z = refl

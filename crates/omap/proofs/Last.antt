@@ -1,19 +1,20 @@
 -- The last record at or below an address is found by its neighbours; and a table that gives no refusal is in order.
 -- Assumes nothing.
-use mathlib.Core.Path.{_≡_, refl, sym, ap, _∙_, subst}
+use mathlib.Core.Path.{_≡_, refl, sym, ap, subst}
 use mathlib.Core.Logic.{⊎-elim}
-use Prim.Native.Nat.{ℕ, zero, suc, _+_, _-_, _*_, _/_, _≤_, _<_}
+use Prim.Native.Nat.{ℕ, zero, suc, _+_, _/_, _≤_, _<_}
 use native.Mathlib.Nat.{eq-or-lt-of-le}
 use native.Mathlib.Omega.{arith}
 use mathlib.Core.Bool.{Bool, true, false, cond}
-use mathlib.Core.List.{List, [], _∷_}
+use mathlib.Core.List.{List, _∷_}
 use mathlib.Core.Option.{Option, none, some}
 use lib.ListN.{length}
-use lib.Dec.{leb}
-use borrow.Author.Tests.{le-leb, lt-leb}
+use lib.Dec.{ltb}
+use borrow.Author.Tests.{le-leb, lt-leb, ltb-true}
 use Rattle.lent.specs.Paper.{firstOf}
 use Rattle.lent.specs.Table.{listed, shapeFault}
-use Rattle.lent.specs.Order.{rising, keyAt, keys, tableFault}
+use Rattle.lent.specs.Order.{risingAfter, rising, keyAt, keys, tableFault}
+use Rattle.lent.proofs.Logic.{and-left, and-right}
 use Rattle.lent.proofs.Place.{map-listed}
 use Rattle.omap.specs.Records.{Entry, entryAt, records, sources, omapFault, orElse, lastAt}
 
@@ -35,6 +36,16 @@ no-fault (some n) t e = cc
 pub in-order : (s : List ℕ) → omapFault s ≡ none → rising (keys 8 s) ≡ true
 unfolding tableFault
 in-order s e = no-fault (shapeFault 8 1048576 s) (rising (keys 8 s)) e
+
+-- records in order after p: the first is above p, and the others are in order after it
+module _ (p : ℕ) (x : Entry) (l : List Entry) (r : risingAfter p (sources (x ∷ l)) ≡ true) where
+  pub first-above : p < x .source
+  unfolding risingAfter
+  first-above = ltb-true p (x .source) (and-left (ltb p (x .source)) (risingAfter (x .source) (sources l)) r)
+
+  pub rest-above : risingAfter (x .source) (sources l) ≡ true
+  unfolding risingAfter
+  rest-above = and-right (ltb p (x .source)) (risingAfter (x .source) (sources l)) r
 
 -- no record at or below a
 pub last-none : (s : List ℕ) (i n a : ℕ) → ((j : ℕ) → i ≤ j → j < i + n → a < src s j) → lastAt a (listed (entryAt s) i n) ≡ none

@@ -6,3 +6,7 @@ pub mod Outputs
 pub mod Expansion
 pub mod Turns
 pub mod Starts
+pub mod Coming
+pub mod Stepping
+pub mod Determined
+pub mod Cases

@@ -1,20 +1,19 @@
 -- What `recordSpec` and `lookupSpec` answer, from what the code's tests found.
 -- Assumes nothing.
-use mathlib.Core.Path.{_≡_, refl, sym, ap, _∙_, subst}
-use Prim.Native.Nat.{ℕ, zero, suc, _+_, _-_, _*_, _/_, _%_, _≤_, _<_}
+use mathlib.Core.Path.{_≡_, refl}
+use Prim.Native.Nat.{ℕ, _+_, _-_, _/_, _≤_, _<_}
 use native.Mathlib.Omega.{arith}
-use mathlib.Core.Bool.{Bool, true, false, cond}
-use mathlib.Core.List.{List, [], _∷_}
-use mathlib.Core.Option.{Option, none, some}
+use mathlib.Core.Bool.{true, false}
+use mathlib.Core.List.{List}
+use mathlib.Core.Option.{none, some}
 use lib.ListN.{length}
-use lib.Dec.{leb, eqb}
 use borrow.Author.Tests.{le-leb, lt-leb, le-ltb, lt-ltb, eq-eqb, ne-eqb}
-use Rattle.lent.specs.Paper.{Told, value, nothing, refused}
+use Rattle.lent.specs.Paper.{value, nothing, refused}
 use Rattle.lent.specs.Table.{omapShape}
 use Rattle.lent.specs.Order.{UpTo}
 use Rattle.omap.specs.Records.{Entry, entryAt, records, omapFault, lastAt, moved, single}
 use Rattle.omap.specs.Lookup.{recordSpec, lookupSpec, fitted}
-use Rattle.omap.proofs.Last.{src, last-none, last-some}
+use Rattle.omap.proofs.Last.{last-none, last-some}
 
 module _ (s : List ℕ) (i : ℕ) where
   pub record-refused : (n : ℕ) → some n ≡ omapShape s → refused n ≡ recordSpec s i

@@ -1,19 +1,17 @@
 -- What the whole-window call answers and leaves behind, from what the code's tests found.
 -- Assumes nothing.
-use mathlib.Core.Path.{_≡_, refl, sym, ap, _∙_, subst}
-use Prim.Native.Nat.{ℕ, zero, suc, _+_, _-_, _*_, _/_, _≤_, _<_, max, min}
+use mathlib.Core.Path.{_≡_, refl, ap, _∙_}
+use Prim.Native.Nat.{ℕ, _+_, _-_, _*_, _/_, _≤_, _<_, max, min}
 use native.Mathlib.Omega.{arith}
-use mathlib.Core.Bool.{Bool, true, false, cond, _&&_}
-use mathlib.Core.List.{List, [], _∷_, _++_}
-use mathlib.Core.Option.{Option, none, some}
-use lib.ListN.{length, drop, set}
-use lib.Dec.{leb}
+use mathlib.Core.Bool.{Bool, true, false, cond}
+use mathlib.Core.List.{List, [], _∷_}
+use mathlib.Core.Option.{none, some}
+use lib.ListN.{length, set}
 use borrow.Author.Tests.{le-leb, lt-leb}
-use Rattle.omap.specs.Records.{Entry, records, omapFault}
-use Rattle.omap.specs.Window.{Piece, nextOf, pieces, put, identity, windowPieces}
-use Rattle.omap.specs.Output.{shown, fits, allFit, flat, laid, outAfter, Window, counted, refusedAs, refusedFor, roomFor, windowSpec, windowOut}
+use Rattle.omap.specs.Records.{omapFault}
+use Rattle.omap.specs.Window.{Piece, nextOf, pieces, put, windowPieces}
+use Rattle.omap.specs.Output.{shown, fits, allFit, flat, outAfter, Window, counted, refusedAs, refusedFor, roomFor, windowSpec, windowOut}
 use Rattle.omap.specs.Part.{countAnswer}
-use Rattle.omap.specs.declared.window.Counted.{Counted}
 use Rattle.omap.specs.declared.window.Counted.the-variants as count
 use Rattle.omap.proofs.Pieces.{piece-empty, piece-zero, piece-some}
 use Rattle.omap.proofs.Filling.{start}

@@ -1,15 +1,15 @@
 -- The pieces of a window one record at a time; where the walk over the records may begin, and where it may stop.
 -- Assumes nothing.
-use mathlib.Core.Path.{_≡_, refl, sym, ap, _∙_, subst}
+use mathlib.Core.Path.{_≡_, refl, sym, ap, _∙_}
 use mathlib.Core.Logic.{⊎-elim}
 use native.Mathlib.Nat.{eq-zero-or-pos}
 use Prim.Native.Nat.{ℕ, zero, suc, _+_, _-_, _*_, _/_, _^_, _≤_, _<_, max, min}
 use native.Mathlib.Omega.{arith}
-use mathlib.Core.Bool.{Bool, true, false, cond, not, _&&_, and-false}
+use mathlib.Core.Bool.{Bool, true, false, cond, and-false}
 use mathlib.Core.List.{List, [], _∷_}
 use mathlib.Core.Option.{Option, none, some}
 use lib.ListN.{length}
-use lib.Dec.{ltb, leb, eqb}
+use lib.Dec.{ltb, leb}
 use borrow.Author.Tests.{lt-ltb, le-ltb, le-leb, lt-leb, eq-eqb, ne-eqb, leb-true}
 use Rattle.lent.specs.Le.{leAt}
 use Rattle.lent.specs.Table.{listed}
@@ -22,6 +22,7 @@ use Rattle.omap.specs.Records.{Entry, entryAt, records, rest}
 use Rattle.omap.specs.Window.{Piece, nextOf, pieceOf, put, pieces}
 use Rattle.omap.specs.Output.{shown, fits, allFit}
 use Rattle.omap.specs.Part.{partAt, partOrEmpty, partAnswer, countAnswer}
+use Rattle.omap.specs.declared.window.Part.{Part}
 use Rattle.omap.specs.declared.window.Part.the-variants as part
 use Rattle.omap.specs.declared.window.Counted.the-variants as counted
 use Rattle.omap.proofs.Last.{src}
@@ -90,6 +91,17 @@ module _ (b source : ℕ) (o : Option Piece) where
   pub was-piece : (d n f : ℕ) → partAnswer b source o ≡ part.Piece d n f → o ≡ some (record { at = d; size = n; to = f })
   unfolding partAnswer
   was-piece d n f e = piece-cases (leb b source) o d n f e
+
+-- the same of the record at a place, from what `part_at` promises and what came
+module _ (s : List ℕ) (a b i : ℕ) {r : Part} (told : r ≡ partAnswer b (src s i) (partAt s a b i)) where
+  pub place-past : r ≡ part.Past → b ≤ src s i
+  place-past e = was-past b (src s i) (partAt s a b i) (sym told ∙ e)
+
+  pub place-empty : r ≡ part.Empty → partAt s a b i ≡ none
+  place-empty e = was-empty b (src s i) (partAt s a b i) (sym told ∙ e)
+
+  pub place-piece : (p : Piece) → r ≡ part.Piece (p .at) (p .size) (p .to) → partAt s a b i ≡ some p
+  place-piece p e = was-piece b (src s i) (partAt s a b i) (p .at) (p .size) (p .to) (sym told ∙ e)
 
 module _ (s : List ℕ) (a b i : ℕ) (h : i < length s / 8) where
   pieces-step : pieces a b (rest s i) ≡ put (partAt s a b i) (pieces a b (rest s (i + 1)))

@@ -1,24 +1,22 @@
 -- What `startSpec` answers, from what the code's tests found.
 -- Assumes nothing.
-use mathlib.Core.Path.{_≡_, refl, sym, ap, _∙_, subst}
-use Prim.Native.Nat.{ℕ, zero, suc, _+_, _-_, _*_, _/_, _≤_, _<_}
+use mathlib.Core.Path.{_≡_, refl, _∙_}
+use Prim.Native.Nat.{ℕ, zero, suc, _+_, _-_, _/_, _≤_, _<_}
 use native.Mathlib.Omega.{arith}
 use native.Mathlib.Nat.{sub-zero}
 use mathlib.Core.Logic.{⊎-elim}
-use mathlib.Core.Bool.{Bool, true, false, cond}
-use mathlib.Core.List.{List, [], _∷_}
-use mathlib.Core.Option.{Option, none, some}
+use mathlib.Core.Bool.{true, false}
+use mathlib.Core.List.{List}
+use mathlib.Core.Option.{none, some}
 use lib.ListN.{length}
-use lib.Dec.{leb}
 use borrow.Author.Tests.{le-leb, lt-leb}
-use Rattle.lent.specs.Paper.{Told, value, refused}
+use Rattle.lent.specs.Paper.{value, refused}
 use Rattle.lent.specs.Table.{listed}
 use Rattle.lent.specs.Order.{UpTo}
 use Rattle.lent.proofs.Logic.{lt-or-le}
 use Rattle.lent.proofs.Place.{length-listed}
-use Rattle.omap.specs.Records.{entryAt, records, omapFault, lastAt}
+use Rattle.omap.specs.Records.{entryAt, records, omapFault}
 use Rattle.omap.specs.Step.{upTo, startOn, startSpec}
-use Rattle.omap.specs.declared.cursor.Cursor.{Cursor}
 use Rattle.omap.proofs.Last.{src}
 use Rattle.omap.proofs.Lookups.{found, found-none}
 

@@ -1,8 +1,8 @@
 -- What a turn of the cursor answers, and how the turns follow one another.
 -- Assumes nothing.
-use mathlib.Core.Path.{_≡_, refl, sym, ap, _∙_, subst}
-use mathlib.Core.Logic.{_⊎_, inl, inr, ⊎-elim}
-use Prim.Native.Nat.{ℕ, zero, suc, _+_, _-_, _*_, _/_, _≤_, _<_, min}
+use mathlib.Core.Path.{_≡_, sym, ap, _∙_}
+use mathlib.Core.Logic.{⊎-elim}
+use Prim.Native.Nat.{ℕ, _+_, _-_, _/_, _≤_, _<_, min}
 use native.Mathlib.Omega.{arith}
 use mathlib.Core.Bool.{Bool, true, false, cond, not, _&&_, and-false}
 use mathlib.Core.List.{List, [], _∷_}
@@ -16,7 +16,7 @@ use Rattle.lent.proofs.Place.{listed-step, listed-end}
 use Rattle.omap.specs.Records.{Entry, entryAt, rest}
 use Rattle.omap.specs.Output.{shown, fits}
 use Rattle.omap.specs.Turn.{pulled, partOf, turnOf, turnAt, nextTurn}
-use Rattle.omap.specs.Step.{Stepped, piece, done, refusedAt, onward, walk, stepSpec}
+use Rattle.omap.specs.Step.{Stepped, done, refusedAt, onward, walk, stepSpec}
 use Rattle.omap.specs.declared.cursor.Cursor.{Cursor}
 use Rattle.omap.specs.declared.cursor.Turned.{Turned}
 use Rattle.omap.specs.declared.cursor.Turned.the-variants as turned

@@ -5,4 +5,5 @@ pub mod Output
 pub mod Expand
 pub mod Turn
 pub mod Step
+pub mod Run
 pub mod Part

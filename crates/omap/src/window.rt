@@ -32,8 +32,10 @@ pub enum Windowed {
     Short(usize),
 }
 
-enum Counted {
+// How many pieces a window has.
+pub enum Counted {
     Pieces(usize),
+    // Refusal 4: a piece does not fit 32 bits.
     TooLarge,
 }
 
@@ -107,7 +109,7 @@ pub fn first_at(table: &[u8], a: u32) -> usize
 }
 
 // The number of pieces of a..b, if they fit.
-fn count(table: &[u8], a: u32, b: u32) -> Counted
+pub fn count(table: &[u8], a: u32, b: u32) -> Counted
     requires { ⌜ rising (keys 8 (now table)) ≡ true ⌝ }
     ensures { λ r. ⌜ r ≡ countAnswer (pieces a b (records (now (table .entry)))) ⌝ }
 {

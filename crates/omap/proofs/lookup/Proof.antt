@@ -1,18 +1,10 @@
 -- `omap::lookup` meets its contract: with a table or with none.
 -- Assumes nothing.
-use Prim.Native.Nat.{ℕ, zero, suc, _+_, _-_, _*_, _/_, _≤_, _<_, max, min}
-use mathlib.Core.Path.{_≡_, refl, sym, ap, _∙_, subst}
-use native.Mathlib.Omega.{arith}
-use mathlib.Core.Option.{none, some}
-use lib.ListN.{length}
 use denote.Ref.{now}
 use Rattle.omap.proofs.Lookups.{look-absent}
 use borrow.Author.Needs.{needs}
 use Rattle.omap.proofs.lookup.Statement.{statement}
 use Rattle.omap.proofs.lookup.Tie as tie
-use Rattle.omap.proofs.lookup.Reads as reads
-use Rattle.omap.proofs.lookup.Lts as lts
-use Rattle.omap.proofs.look.Reads as look-reads
 
 look-requires : tie.Need-look-requires
 look-requires c κs = search needs

@@ -1,10 +1,8 @@
 -- `omap::record_at` meets its contract: each answer is that of `recordSpec` by the tests that led there.
 -- Assumes nothing.
-use Prim.Native.Nat.{ℕ, zero, suc, _+_, _-_, _*_, _/_, _≤_, _<_, max, min}
-use mathlib.Core.Path.{_≡_, refl, sym, ap, _∙_, subst}
+use mathlib.Core.Path.{_≡_, sym, ap, _∙_}
 use native.Mathlib.Omega.{arith}
-use mathlib.Core.Option.{none, some}
-use lib.ListN.{length}
+use mathlib.Core.Option.{none}
 use denote.Ref.{now}
 use Rattle.lent.specs.Paper.{number, toldChecked}
 use Rattle.lent.specs.Table.{omapShape}
@@ -12,10 +10,6 @@ use Rattle.omap.proofs.Lookups.{record-refused, record-given, record-no
 use borrow.Author.Needs.{needs}
 use Rattle.omap.proofs.record_at.Statement.{statement}
 use Rattle.omap.proofs.record_at.Tie as tie
-use Rattle.omap.proofs.record_at.Reads as reads
-use Rattle.omap.proofs.record_at.Lts as lts
-use Rattle.lent.proofs.shape.Reads as shape-reads
-use Rattle.lent.proofs.u32_at.Reads as u32-at-reads
 
 shape-requires : tie.Need-shape-requires
 shape-requires c κs = search needs

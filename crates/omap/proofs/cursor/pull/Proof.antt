@@ -1,19 +1,12 @@
 -- `omap::cursor::pull` meets its contract.
 -- Assumes nothing.
-use Prim.Native.Nat.{ℕ, zero, suc, _+_, _-_, _*_, _/_, _≤_, _<_, max, min}
-use mathlib.Core.Path.{_≡_, refl, sym, ap, _∙_, subst}
+use mathlib.Core.Path.{sym, _∙_}
 use native.Mathlib.Omega.{arith}
-use mathlib.Core.Option.{none, some}
-use lib.ListN.{length}
 use denote.Ref.{now}
 use Rattle.omap.proofs.Turns.{next-record, next-end}
 use borrow.Author.Needs.{needs}
 use Rattle.omap.proofs.cursor.pull.Statement.{statement}
 use Rattle.omap.proofs.cursor.pull.Tie as tie
-use Rattle.omap.proofs.cursor.pull.Reads as reads
-use Rattle.omap.proofs.cursor.pull.Lts as lts
-use Rattle.lent.proofs.u32_at.Reads as u32-at-reads
-use Rattle.omap.proofs.cursor.turn.Reads as turn-reads
 
 mul-u32-at : tie.Need-mul-u32-at
 mul-u32-at c = search needs

@@ -1,10 +1,8 @@
 -- `omap::cursor::start_in` meets its contract: each answer by the tests that led there.
 -- Assumes nothing.
-use Prim.Native.Nat.{ℕ, zero, suc, _+_, _-_, _*_, _/_, _≤_, _<_, max, min}
-use mathlib.Core.Path.{_≡_, refl, sym, ap, _∙_, subst}
+use mathlib.Core.Path.{_≡_, sym, ap, _∙_, subst}
 use native.Mathlib.Omega.{arith}
-use mathlib.Core.Option.{none, some}
-use lib.ListN.{length}
+use mathlib.Core.Option.{none}
 use denote.Ref.{now}
 use Rattle.lent.specs.Paper.{number, toldChecked}
 use Rattle.lent.specs.Order.{UpTo}
@@ -14,11 +12,6 @@ use Rattle.omap.proofs.Starts.{start-refused, start-empty, start-before
 use borrow.Author.Needs.{needs}
 use Rattle.omap.proofs.cursor.start_in.Statement.{statement}
 use Rattle.omap.proofs.cursor.start_in.Tie as tie
-use Rattle.omap.proofs.cursor.start_in.Reads as reads
-use Rattle.omap.proofs.cursor.start_in.Lts as lts
-use Rattle.lent.proofs.check.Reads as check-reads
-use Rattle.lent.proofs.u32_at.Reads as u32-at-reads
-use Rattle.lent.proofs.up_to.Reads as up-to-reads
 
 check-requires : tie.Need-check-requires
 check-requires c κs = search needs

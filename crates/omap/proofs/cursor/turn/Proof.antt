@@ -1,18 +1,10 @@
 -- `omap::cursor::turn` meets its contract: each answer by the tests that led there.
 -- Assumes nothing.
-use Prim.Native.Nat.{ℕ, zero, suc, _+_, _-_, _*_, _/_, _≤_, _<_, max, min}
-use mathlib.Core.Path.{_≡_, refl, sym, ap, _∙_, subst}
 use native.Mathlib.Omega.{arith}
-use mathlib.Core.Option.{none, some}
-use lib.ListN.{length}
-use denote.Ref.{now}
 use Rattle.omap.proofs.Turns.{turn-empty, turn-zero, turn-early, turn-piece, turn-large}
 use borrow.Author.Needs.{needs}
 use Rattle.omap.proofs.cursor.turn.Statement.{statement}
 use Rattle.omap.proofs.cursor.turn.Tie as tie
-use Rattle.omap.proofs.cursor.turn.Reads as reads
-use Rattle.omap.proofs.cursor.turn.Lts as lts
-use Rattle.omap.proofs.cursor.least.Reads as least-reads
 
 least-requires : tie.Need-least-requires
 least-requires c κs = search needs

@@ -3,12 +3,11 @@
 use borrow.Author.Needs.{needs}
 use Rattle.omap.specs.Window.{Piece}
 use Rattle.omap.specs.Part.{partAt}
-use Rattle.omap.proofs.Last.{src}
-use Rattle.omap.proofs.Pieces.{was-past, was-empty, was-piece, step-none, step-some, none-left, past-none, fit-more, fit-not, count-large, count-pieces, piece-small}
-use Prim.Native.Nat.{ℕ, zero, suc, _+_, _-_, _*_, _/_, _≤_, _<_, max, min}
-use mathlib.Core.Path.{_≡_, refl, sym, ap, _∙_, subst}
+use Rattle.omap.proofs.Pieces.{place-past, place-empty, place-piece, step-none, step-some, none-left, past-none, fit-more, fit-not, count-large, count-pieces, piece-small}
+use Prim.Native.Nat.{_+_, _-_, _≤_}
+use mathlib.Core.Path.{_≡_, ap, _∙_}
 use native.Mathlib.Omega.{arith}
-use mathlib.Core.Option.{none, some}
+use mathlib.Core.Option.{some}
 use lib.ListN.{length}
 use denote.Ref.{now}
 use Rattle.omap.specs.Records.{records, rest}
@@ -16,10 +15,6 @@ use Rattle.omap.specs.Window.{pieces}
 use Rattle.omap.specs.Output.{allFit}
 use Rattle.omap.proofs.window.count.Statement.{statement}
 use Rattle.omap.proofs.window.count.Tie as tie
-use Rattle.omap.proofs.window.count.Reads as reads
-use Rattle.omap.proofs.window.count.Lts as lts
-use Rattle.omap.proofs.window.first_at.Reads as first-at-reads
-use Rattle.omap.proofs.window.part_at.Reads as part-at-reads
 
 abbrev Inv-loop : tie.InvT-loop
 Inv-loop table a b n i₀ count₀ i count = (i ≤ n)
@@ -62,9 +57,7 @@ module _ (c : tie.After-known-told Inv-loop μ-loop) where
   found : Found
   found =
       let a = at .before .before .before .args in
-      let s = now (a .table) in
-      was-piece (a .b) (src s (at .loop .i)) (partAt s (a .a) (a .b) (at .loop .i)) (piece .at) (piece .size) (piece .to)
-      (sym (c .before .before .before .part-at .ensures) ∙ c .before .part .given .1)
+      place-piece (now (a .table)) (a .a) (a .b) (at .loop .i) (c .before .before .before .part-at .ensures) piece (c .before .part .given .1)
 
   here : (piece .at + piece .size ≤ at .before .before .before .args .b) × (piece .to + piece .size ≤ 12884901888)
   here =
@@ -120,7 +113,7 @@ loop-again-2 c =
     let l = c .before .before .before .before in
     let a = l .before .before .before .args in
     let s = now (a .table) in
-    let e = was-empty (a .b) (src s (l .loop .i)) (partAt s (a .a) (a .b) (l .loop .i)) (sym (c .before .before .part-at .ensures) ∙ c .enum-told .given .1) in
+    let e = place-empty s (a .a) (a .b) (l .loop .i) (c .before .before .part-at .ensures) (c .enum-told .given .1) in
     let st = step-none s (a .a) (a .b) (l .loop .i) (omega arith) e in
     (omega arith, (omega arith, (omega (arith, ap length st), l .loop .inv .1 .1 .1 ∙ ap allFit st)))
 
@@ -133,7 +126,7 @@ returns-2 c =
     let l = c .before .before .before .before in
     let a = l .before .before .before .args in
     let s = now (a .table) in
-    let e = was-past (a .b) (src s (l .loop .i)) (partAt s (a .a) (a .b) (l .loop .i)) (sym (c .before .before .part-at .ensures) ∙ c .enum-told2 .given .1) in
+    let e = place-past s (a .a) (a .b) (l .loop .i) (c .before .before .part-at .ensures) (c .enum-told2 .given .1) in
     let st = past-none s (l .before .before .before .pre) (a .a) (a .b) (l .loop .i) (omega arith) e in
     count-pieces (pieces (a .a) (a .b) (records s)) (l .loop .inv .1 .1 .1 ∙ ap allFit st) (l .loop .count) (omega (arith, ap length st))
 

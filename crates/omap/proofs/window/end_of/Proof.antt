@@ -1,18 +1,13 @@
 -- `omap::window::end_of` meets its contract: the next record's source, if there is one.
 -- Assumes nothing.
-use Prim.Native.Nat.{ℕ, zero, suc, _+_, _-_, _*_, _/_, _≤_, _<_, max, min}
-use mathlib.Core.Path.{_≡_, refl, sym, ap, _∙_, subst}
+use Prim.Native.Nat.{_+_}
+use mathlib.Core.Path.{sym, _∙_}
 use native.Mathlib.Omega.{arith}
-use mathlib.Core.Option.{none, some}
-use lib.ListN.{length}
 use denote.Ref.{now}
 use Rattle.omap.proofs.Pieces.{next-some, next-none}
 use borrow.Author.Needs.{needs}
 use Rattle.omap.proofs.window.end_of.Statement.{statement}
 use Rattle.omap.proofs.window.end_of.Tie as tie
-use Rattle.omap.proofs.window.end_of.Reads as reads
-use Rattle.omap.proofs.window.end_of.Lts as lts
-use Rattle.omap.proofs.window.wide_at.Reads as wide-at-reads
 
 add-if1 : tie.Need-add-if1
 add-if1 c = search needs

@@ -1,24 +1,18 @@
 -- `omap::window::fill` meets its contract: what is left to write, written onto the output as it is, gives the output as it will be.
 -- Assumes nothing.
-use Prim.Native.Nat.{ℕ, zero, suc, _+_, _-_, _*_, _/_, _≤_, _<_, max, min}
-use mathlib.Core.Path.{_≡_, refl, sym, ap, _∙_, subst}
-use mathlib.Core.List.{List}
+use Prim.Native.Nat.{_+_, _-_, _≤_}
+use mathlib.Core.Path.{_≡_}
 use native.Mathlib.Omega.{arith}
-use mathlib.Core.Option.{none, some}
+use mathlib.Core.Option.{some}
 use lib.ListN.{length, set, length-set}
 use denote.Ref.{now}
 use borrow.Author.Needs.{needs}
 use Rattle.omap.specs.Window.{Piece}
 use Rattle.omap.specs.Part.{partAt}
-use Rattle.omap.proofs.Last.{src}
-use Rattle.omap.proofs.Pieces.{was-past, was-empty, was-piece}
+use Rattle.omap.proofs.Pieces.{place-past, place-empty, place-piece}
 use Rattle.omap.proofs.Filling.{Filling, filling-first, filling-last, filling-past, filling-same, filling-more, shown-fits, room-here}
 use Rattle.omap.proofs.window.fill.Statement.{statement}
 use Rattle.omap.proofs.window.fill.Tie as tie
-use Rattle.omap.proofs.window.fill.Reads as reads
-use Rattle.omap.proofs.window.fill.Lts as lts
-use Rattle.omap.proofs.window.first_at.Reads as first-at-reads
-use Rattle.omap.proofs.window.part_at.Reads as part-at-reads
 
 abbrev Inv-loop : tie.InvT-loop
 Inv-loop table a b out₀ n i₀ k₀ out i k = Filling table a b out₀ out i k
@@ -59,9 +53,7 @@ module _ (c : tie.After-known-told Inv-loop μ-loop) where
   found : Found
   found =
       let a = at .before .before .before .before .args in
-      let s = now (a .table) in
-      was-piece (a .b) (src s (at .loop .i)) (partAt s (a .a) (a .b) (at .loop .i)) (piece .at) (piece .size) (piece .to)
-      (sym (c .before .before .before .part-at .ensures) ∙ c .before .part .given .1)
+      place-piece (now (a .table)) (a .a) (a .b) (at .loop .i) (c .before .before .before .part-at .ensures) piece (c .before .part .given .1)
 
   small : piece .to + piece .size ≤ 4294967295
   small =
@@ -128,7 +120,7 @@ loop-again-2 c =
     let a = l .before .before .before .before .args in
     let s = now (a .table) in
     filling-same s (a .a) (a .b) (now (a .out)) (l .loop .out) (l .loop .i) (l .loop .k) (l .loop .inv) (omega arith)
-    (was-empty (a .b) (src s (l .loop .i)) (partAt s (a .a) (a .b) (l .loop .i)) (sym (c .before .before .part-at .ensures) ∙ c .enum-told .given .1))
+    (place-empty s (a .a) (a .b) (l .loop .i) (c .before .before .part-at .ensures) (c .enum-told .given .1))
 
 enum-told-2 : tie.Need-enum-told-2 Inv-loop μ-loop
 enum-told-2 c = search needs
@@ -143,7 +135,7 @@ returns c =
     let a = st .args in
     let s = now (a .table) in
     filling-past s (a .a) (a .b) (now (a .out)) (l .loop .out) (l .loop .i) (l .loop .k) (l .loop .inv) (omega arith) (st .pre .0)
-    (was-past (a .b) (src s (l .loop .i)) (partAt s (a .a) (a .b) (l .loop .i)) (sym (c .before .before .part-at .ensures) ∙ c .enum-told2 .given .1))
+    (place-past s (a .a) (a .b) (l .loop .i) (c .before .before .part-at .ensures) (c .enum-told2 .given .1))
 
 same-length-2 : tie.Need-same-length-2 Inv-loop μ-loop
 same-length-2 c = c .before .loop .inv .kept

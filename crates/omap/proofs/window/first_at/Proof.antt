@@ -1,19 +1,14 @@
 -- `omap::window::first_at` meets its contract: the record just before the first one past the address holds it.
 -- Assumes nothing.
-use Prim.Native.Nat.{ℕ, zero, suc, _+_, _-_, _*_, _/_, _≤_, _<_, max, min}
-use mathlib.Core.Path.{_≡_, refl, sym, ap, _∙_, subst}
+use Prim.Native.Nat.{_-_}
+use mathlib.Core.Path.{ap}
 use native.Mathlib.Omega.{arith}
-use mathlib.Core.Option.{none, some}
-use lib.ListN.{length}
 use denote.Ref.{now}
 use Rattle.omap.specs.Window.{pieces}
 use Rattle.omap.proofs.Pieces.{all-first, first-from}
 use borrow.Author.Needs.{needs}
 use Rattle.omap.proofs.window.first_at.Statement.{statement}
 use Rattle.omap.proofs.window.first_at.Tie as tie
-use Rattle.omap.proofs.window.first_at.Reads as reads
-use Rattle.omap.proofs.window.first_at.Lts as lts
-use Rattle.lent.proofs.up_to.Reads as up-to-reads
 
 up-to-requires : tie.Need-up-to-requires
 up-to-requires c κs = search needs

@@ -1,16 +1,9 @@
 -- `omap::window::lookup_range` meets its contract: with a table or with none.
 -- Assumes nothing.
-use Prim.Native.Nat.{ℕ, _-_, _≤_, _<_}
-use mathlib.Core.Path.{_≡_, refl, sym, ap, _∙_, subst}
-use native.Mathlib.Omega.{arith}
 use denote.Ref.{now}
 use borrow.Author.Needs.{needs}
 use Rattle.omap.proofs.window.lookup_range.Statement.{statement}
 use Rattle.omap.proofs.window.lookup_range.Tie as tie
-use Rattle.omap.proofs.window.lookup_range.Reads as reads
-use Rattle.omap.proofs.window.lookup_range.Lts as lts
-use Rattle.omap.proofs.window.range_in.Reads as range-in-reads
-use Rattle.omap.proofs.window.range_of_none.Reads as range-of-none-reads
 
 range-in-requires : tie.Need-range-in-requires
 range-in-requires c κs = search needs

@@ -1,10 +1,8 @@
 -- `omap::window::part_at` meets its contract: each answer by the tests that led there.
 -- Assumes nothing.
-use Prim.Native.Nat.{ℕ, zero, suc, _+_, _-_, _*_, _/_, _≤_, _<_, max, min}
-use mathlib.Core.Path.{_≡_, refl, sym, ap, _∙_, subst}
+use Prim.Native.Nat.{_+_, _*_}
+use mathlib.Core.Path.{sym, ap, _∙_}
 use native.Mathlib.Omega.{arith}
-use mathlib.Core.Option.{none, some}
-use lib.ListN.{length}
 use denote.Ref.{now}
 use Rattle.lent.specs.Le.{leAt}
 use Rattle.omap.specs.Records.{entryAt, rest}
@@ -14,12 +12,6 @@ use Rattle.omap.proofs.Pieces.{answer-past, answer-part, piece-empty, p
 use borrow.Author.Needs.{needs}
 use Rattle.omap.proofs.window.part_at.Statement.{statement}
 use Rattle.omap.proofs.window.part_at.Tie as tie
-use Rattle.omap.proofs.window.part_at.Reads as reads
-use Rattle.omap.proofs.window.part_at.Lts as lts
-use Rattle.omap.proofs.window.end_of.Reads as end-of-reads
-use Rattle.omap.proofs.window.larger.Reads as larger-reads
-use Rattle.omap.proofs.window.smaller.Reads as smaller-reads
-use Rattle.omap.proofs.window.wide_at.Reads as wide-at-reads
 
 mul-wide-at : tie.Need-mul-wide-at
 mul-wide-at c = search needs

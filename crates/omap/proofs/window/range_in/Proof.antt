@@ -1,10 +1,10 @@
 -- `omap::window::range_in` meets its contract: each answer by the check, the count and the room.
 -- Assumes nothing.
-use Prim.Native.Nat.{ℕ, zero, suc, _+_, _-_, _*_, _/_, _≤_, _<_, max, min}
-use mathlib.Core.Path.{_≡_, refl, sym, ap, _∙_, subst}
-use mathlib.Core.Bool.{true, false}
+use Prim.Native.Nat.{_/_}
+use mathlib.Core.Path.{_≡_, refl, sym, ap, _∙_}
+use mathlib.Core.Bool.{true}
 use native.Mathlib.Omega.{arith}
-use mathlib.Core.Option.{none, some}
+use mathlib.Core.Option.{none}
 use lib.ListN.{length}
 use denote.Ref.{now}
 use Rattle.lent.specs.Paper.{number, toldChecked}
@@ -16,11 +16,6 @@ use Rattle.omap.proofs.Outputs.{counted-is, counted-large, length-flat,
 use borrow.Author.Needs.{needs}
 use Rattle.omap.proofs.window.range_in.Statement.{statement}
 use Rattle.omap.proofs.window.range_in.Tie as tie
-use Rattle.omap.proofs.window.range_in.Reads as reads
-use Rattle.omap.proofs.window.range_in.Lts as lts
-use Rattle.lent.proofs.check.Reads as check-reads
-use Rattle.omap.proofs.window.count.Reads as count-reads
-use Rattle.omap.proofs.window.fill.Reads as fill-reads
 
 check-requires : tie.Need-check-requires
 check-requires c κs = search needs

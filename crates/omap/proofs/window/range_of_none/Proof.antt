@@ -1,15 +1,11 @@
 -- `omap::window::range_of_none` meets its contract: the one piece, or none.
 -- Assumes nothing.
-use Prim.Native.Nat.{ℕ, _-_, _≤_, _<_}
-use mathlib.Core.Path.{_≡_, refl, sym, ap, _∙_, subst}
 use native.Mathlib.Omega.{arith}
 use denote.Ref.{now}
 use Rattle.omap.proofs.Outputs.{none-empty, none-zero, none-one, none-nothing, none-short, none-written}
 use borrow.Author.Needs.{needs}
 use Rattle.omap.proofs.window.range_of_none.Statement.{statement}
 use Rattle.omap.proofs.window.range_of_none.Tie as tie
-use Rattle.omap.proofs.window.range_of_none.Reads as reads
-use Rattle.omap.proofs.window.range_of_none.Lts as lts
 
 returns : tie.Need-returns
 returns c = λ s. let a = c .before .args in none-nothing s (a .a) (a .b) (now (a .out)) (none-empty s (a .a) (a .b) (omega arith))

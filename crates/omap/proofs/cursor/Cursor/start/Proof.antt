@@ -1,18 +1,10 @@
 -- `omap::cursor::Cursor::start` meets its contract: with a table or with none.
 -- Assumes nothing.
-use Prim.Native.Nat.{ℕ, zero, suc, _+_, _-_, _*_, _/_, _≤_, _<_, max, min}
-use mathlib.Core.Path.{_≡_, refl, sym, ap, _∙_, subst}
-use native.Mathlib.Omega.{arith}
-use mathlib.Core.Option.{none, some}
-use lib.ListN.{length}
 use denote.Ref.{now}
 use Rattle.omap.proofs.Starts.{start-absent}
 use borrow.Author.Needs.{needs}
 use Rattle.omap.proofs.cursor.Cursor.start.Statement.{statement}
 use Rattle.omap.proofs.cursor.Cursor.start.Tie as tie
-use Rattle.omap.proofs.cursor.Cursor.start.Reads as reads
-use Rattle.omap.proofs.cursor.Cursor.start.Lts as lts
-use Rattle.omap.proofs.cursor.start_in.Reads as start-in-reads
 
 start-in-requires : tie.Need-start-in-requires
 start-in-requires c κs = search needs

@@ -5,10 +5,9 @@ use Rattle.lent.specs.Paper.{number, toldChecked}
 use Rattle.omap.specs.Step.{piece, refusedAt}
 use Rattle.omap.specs.declared.cursor.Turned.the-variants.{Piece, Early, TooLarge}
 use Rattle.omap.proofs.Turns.{step-refused, step-good, walk-done, walk-ends, Onward, skipped}
-use Prim.Native.Nat.{ℕ, zero, suc, _+_, _-_, _*_, _/_, _≤_, _<_, max, min}
-use mathlib.Core.Path.{_≡_, refl, sym, ap, _∙_, subst}
+use Prim.Native.Nat.{ℕ, _+_, _-_, _/_, min}
+use mathlib.Core.Path.{_≡_, refl, sym, ap, _∙_}
 use native.Mathlib.Omega.{arith}
-use mathlib.Core.Option.{none, some}
 use lib.ListN.{length}
 use mathlib.Core.List.{List}
 use denote.Ref.{now}
@@ -16,11 +15,6 @@ use Rattle.omap.specs.Records.{rest}
 use Rattle.omap.specs.Step.{walk, stepSpec}
 use Rattle.omap.proofs.cursor.Cursor.step.Statement.{statement}
 use Rattle.omap.proofs.cursor.Cursor.step.Tie as tie
-use Rattle.omap.proofs.cursor.Cursor.step.Reads as reads
-use Rattle.omap.proofs.cursor.Cursor.step.Lts as lts
-use Rattle.lent.proofs.held.Reads as held-reads
-use Rattle.lent.proofs.shape.Reads as shape-reads
-use Rattle.omap.proofs.cursor.pull.Reads as pull-reads
 
 abbrev Inv-loop : tie.InvT-loop
 Inv-loop self₀ present table from held self = stepSpec present table self₀ ≡ walk self₀ (rest held (self .place)) self
