@@ -3,3 +3,4 @@ pub mod Tables
 pub mod Headers
 pub mod Addresses
 pub mod Frames
+pub mod Clashes

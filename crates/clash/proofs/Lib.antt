@@ -1,0 +1,13 @@
+pub mod Sent
+pub mod Runs
+pub mod Meetings
+pub mod Later
+pub mod Pairs
+pub mod Backs
+pub mod Answers
+pub mod Addresses
+pub mod Smaller
+pub mod Told
+pub mod Demand3
+pub mod Determined
+pub mod Cases

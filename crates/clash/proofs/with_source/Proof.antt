@@ -1,0 +1,42 @@
+-- `clash::with_source` meets its contract: each case by computation.
+-- Assumes nothing.
+use Prim.Native.Nat.{ℕ, zero, suc, _+_, _-_, _*_, _/_, _≤_, _<_, max, min}
+use mathlib.Core.Path.{_≡_, refl, sym, ap, _∙_, subst}
+use native.Mathlib.Omega.{arith}
+use mathlib.Core.Option.{Option, none, some}
+use mathlib.Core.List.{List, [], _∷_, _++_}
+use lib.ListN.{length}
+use denote.Ref.{now}
+use Rattle.clash.specs.Clash.{leastTwo}
+use Rattle.clash.specs.Meet.{soFar}
+use Rattle.clash.specs.declared.Found.{Found}
+use borrow.Author.Needs.{needs}
+use Rattle.clash.proofs.with_source.Statement.{statement}
+use Rattle.clash.proofs.with_source.Tie as tie
+use Rattle.clash.proofs.with_source.Reads as reads
+use Rattle.clash.proofs.with_source.Lts as lts
+
+enum-told : tie.Need-enum-told
+enum-told c = search needs
+
+enum-known-found : tie.Need-enum-known-found
+enum-known-found c = search needs
+
+enum-known-found-2 : tie.Need-enum-known-found-2
+enum-known-found-2 c = search needs
+
+returns : tie.Need-returns
+unfolding leastTwo
+returns c = λ l. ap (λ (f : Found). leastTwo (soFar f ++ (c .before .before .args .x ∷ l))) (c .enum-told .given .1)
+
+returns-2 : tie.Need-returns-2
+unfolding leastTwo
+returns-2 c = λ l. ap (λ (f : Found). leastTwo (soFar f ++ (c .before .before .before .args .x ∷ l))) (c .before .found .given .1)
+
+returns-3 : tie.Need-returns-3
+unfolding leastTwo
+returns-3 c = λ l. ap (λ (f : Found). leastTwo (soFar f ++ (c .before .before .before .args .x ∷ l))) (c .before .found2 .given .1)
+
+pub with-source-spec : {M : Type 1} → statement M
+with-source-spec =
+    tie.close (tie.spec enum-told enum-known-found enum-known-found-2 returns returns-2 returns-3)

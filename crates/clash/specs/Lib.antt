@@ -1,0 +1,3 @@
+pub mod Clash
+pub mod Meet
+pub mod Demand

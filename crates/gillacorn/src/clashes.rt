@@ -1,0 +1,103 @@
+// The clash check and the way back.
+ghost use mathlib.Core.Path.{_≡_};
+ghost use Rattle.clash.specs.Clash.{toldClashed, clashSpec, toldBack, backSpec};
+ghost use Rattle.gillacorn.specs.Clashes.{pairOf, sourcesShown};
+
+use crate::code::number_of;
+use clash::Back;
+use clash::Clashed;
+
+// The least two addresses that share a translation, beside the code.
+#[repr(C)]
+pub struct PairAnswer {
+    pub code: u32,
+    pub first: u32,
+    pub second: u32,
+}
+
+// The sources of a translation: how many are shown, and which.
+#[repr(C)]
+pub struct SourcesAnswer {
+    pub code: u32,
+    pub sources: u32,
+    pub first: u32,
+    pub second: u32,
+}
+
+fn pair_of(clashed: Clashed) -> PairAnswer
+    ensures { λ r. ⌜ r ≡ pairOf (toldClashed clashed) ⌝ }
+{
+    match clashed {
+        Clashed::Single => PairAnswer {
+            code: 255,
+            first: 0,
+            second: 0,
+        },
+        Clashed::Pair(first, second) => PairAnswer {
+            code: 0,
+            first,
+            second,
+        },
+        Clashed::Refused(why) => PairAnswer {
+            code: number_of(why),
+            first: 0,
+            second: 0,
+        },
+        Clashed::TooLarge => PairAnswer {
+            code: 4,
+            first: 0,
+            second: 0,
+        },
+    }
+}
+
+fn sources_of(back: Back) -> SourcesAnswer
+    ensures { λ r. ⌜ r ≡ sourcesShown (toldBack back) ⌝ }
+{
+    match back {
+        Back::Nothing => SourcesAnswer {
+            code: 255,
+            sources: 0,
+            first: 0,
+            second: 0,
+        },
+        Back::One(first) => SourcesAnswer {
+            code: 0,
+            sources: 1,
+            first,
+            second: 0,
+        },
+        Back::Two(first, second) => SourcesAnswer {
+            code: 0,
+            sources: 2,
+            first,
+            second,
+        },
+        Back::Refused(why) => SourcesAnswer {
+            code: number_of(why),
+            sources: 0,
+            first: 0,
+            second: 0,
+        },
+        Back::TooLarge => SourcesAnswer {
+            code: 4,
+            sources: 0,
+            first: 0,
+            second: 0,
+        },
+    }
+}
+
+#[no_mangle]
+pub extern "C" fn gillacorn_clash(table: &[u8], a: u32, b: u32) -> PairAnswer
+    ensures { λ r. ⌜ r ≡ pairOf (clashSpec (now (table .entry)) a b) ⌝ }
+{
+    pair_of(clash::clash(table, a, b))
+}
+
+#[no_mangle]
+pub extern "C" fn gillacorn_way_back(table: &[u8], a: u32, b: u32, t: u32) -> SourcesAnswer
+    ensures { λ r. ⌜ r ≡ sourcesShown (backSpec (now (table .entry)) a b t) ⌝ }
+{
+    sources_of(clash::way_back(table, a, b, t))
+}
