@@ -3,7 +3,6 @@ ghost use mathlib.Core.Path.{_≡_};
 ghost use Prim.Native.Nat.{_/_};
 ghost use lib.ListN.{length};
 ghost use Rattle.omap.specs.Output.{toldWindowed, windowSpec, windowOut};
-
 use crate::PdbInternalRva;
 use crate::Rva;
 use omap::window::Windowed;

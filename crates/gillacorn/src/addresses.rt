@@ -8,7 +8,6 @@ ghost use Rattle.address_map.specs.Paths.{actual, crossLocate, placeCross, plac
 ghost use Rattle.address_map.specs.Answers.{toldRva, toldInternalRva, toldOffset, toldInternalOffset};
 ghost use Rattle.gillacorn.specs.Code.{valueOf};
 ghost use Rattle.gillacorn.specs.Addresses.{offsetAnswer};
-
 use crate::code::Value;
 use crate::code::number_of;
 use crate::code::value_of;
@@ -34,9 +33,18 @@ fn rva_value(answer: ToRva) -> Value
     ensures { λ r. ⌜ r ≡ valueOf (toldRva answer) ⌝ }
 {
     match answer {
-        ToRva::At(rva) => Value { code: 0, value: rva.0 },
-        ToRva::Nothing => Value { code: 255, value: 0 },
-        ToRva::Refused(why) => Value { code: number_of(why), value: 0 },
+        ToRva::At(rva) => Value {
+            code: 0,
+            value: rva.0,
+        },
+        ToRva::Nothing => Value {
+            code: 255,
+            value: 0,
+        },
+        ToRva::Refused(why) => Value {
+            code: number_of(why),
+            value: 0,
+        },
         ToRva::TooLarge => Value { code: 4, value: 0 },
     }
 }
@@ -45,9 +53,18 @@ fn internal_rva_value(answer: ToInternalRva) -> Value
     ensures { λ r. ⌜ r ≡ valueOf (toldInternalRva answer) ⌝ }
 {
     match answer {
-        ToInternalRva::At(rva) => Value { code: 0, value: rva.0 },
-        ToInternalRva::Nothing => Value { code: 255, value: 0 },
-        ToInternalRva::Refused(why) => Value { code: number_of(why), value: 0 },
+        ToInternalRva::At(rva) => Value {
+            code: 0,
+            value: rva.0,
+        },
+        ToInternalRva::Nothing => Value {
+            code: 255,
+            value: 0,
+        },
+        ToInternalRva::Refused(why) => Value {
+            code: number_of(why),
+            value: 0,
+        },
         ToInternalRva::TooLarge => Value { code: 4, value: 0 },
     }
 }
@@ -56,10 +73,26 @@ fn located_answer(answer: Located) -> OffsetAnswer
     ensures { λ r. ⌜ r ≡ offsetAnswer (toldLocated answer) ⌝ }
 {
     match answer {
-        Located::At(section, offset) => OffsetAnswer { code: 0, section, offset },
-        Located::Nothing => OffsetAnswer { code: 255, section: 0, offset: 0 },
-        Located::Refused(why) => OffsetAnswer { code: number_of(why), section: 0, offset: 0 },
-        Located::TooLarge => OffsetAnswer { code: 4, section: 0, offset: 0 },
+        Located::At(section, offset) => OffsetAnswer {
+            code: 0,
+            section,
+            offset,
+        },
+        Located::Nothing => OffsetAnswer {
+            code: 255,
+            section: 0,
+            offset: 0,
+        },
+        Located::Refused(why) => OffsetAnswer {
+            code: number_of(why),
+            section: 0,
+            offset: 0,
+        },
+        Located::TooLarge => OffsetAnswer {
+            code: 4,
+            section: 0,
+            offset: 0,
+        },
     }
 }
 
@@ -67,10 +100,26 @@ fn section_offset_answer(answer: ToOffset) -> OffsetAnswer
     ensures { λ r. ⌜ r ≡ offsetAnswer (toldOffset answer) ⌝ }
 {
     match answer {
-        ToOffset::At(at) => OffsetAnswer { code: 0, section: at.section, offset: at.offset },
-        ToOffset::Nothing => OffsetAnswer { code: 255, section: 0, offset: 0 },
-        ToOffset::Refused(why) => OffsetAnswer { code: number_of(why), section: 0, offset: 0 },
-        ToOffset::TooLarge => OffsetAnswer { code: 4, section: 0, offset: 0 },
+        ToOffset::At(at) => OffsetAnswer {
+            code: 0,
+            section: at.section,
+            offset: at.offset,
+        },
+        ToOffset::Nothing => OffsetAnswer {
+            code: 255,
+            section: 0,
+            offset: 0,
+        },
+        ToOffset::Refused(why) => OffsetAnswer {
+            code: number_of(why),
+            section: 0,
+            offset: 0,
+        },
+        ToOffset::TooLarge => OffsetAnswer {
+            code: 4,
+            section: 0,
+            offset: 0,
+        },
     }
 }
 
@@ -78,10 +127,26 @@ fn internal_offset_answer(answer: ToInternalOffset) -> OffsetAnswer
     ensures { λ r. ⌜ r ≡ offsetAnswer (toldInternalOffset answer) ⌝ }
 {
     match answer {
-        ToInternalOffset::At(at) => OffsetAnswer { code: 0, section: at.section, offset: at.offset },
-        ToInternalOffset::Nothing => OffsetAnswer { code: 255, section: 0, offset: 0 },
-        ToInternalOffset::Refused(why) => OffsetAnswer { code: number_of(why), section: 0, offset: 0 },
-        ToInternalOffset::TooLarge => OffsetAnswer { code: 4, section: 0, offset: 0 },
+        ToInternalOffset::At(at) => OffsetAnswer {
+            code: 0,
+            section: at.section,
+            offset: at.offset,
+        },
+        ToInternalOffset::Nothing => OffsetAnswer {
+            code: 255,
+            section: 0,
+            offset: 0,
+        },
+        ToInternalOffset::Refused(why) => OffsetAnswer {
+            code: number_of(why),
+            section: 0,
+            offset: 0,
+        },
+        ToInternalOffset::TooLarge => OffsetAnswer {
+            code: 4,
+            section: 0,
+            offset: 0,
+        },
     }
 }
 
@@ -132,7 +197,12 @@ pub extern "C" fn gillacorn_rva_to_section_offset<'s>(
     ensures { λ r. ⌜ r ≡ offsetAnswer (sectionSpec (actual «has_original_sections» (now («original_sections» .entry)) «has_transformed_sections» (now («transformed_sections» .entry))) rva) ⌝ }
 {
     let from = Rva(rva);
-    section_offset_answer(from.to_section_offset(has_original_sections, original_sections, has_transformed_sections, transformed_sections))
+    section_offset_answer(from.to_section_offset(
+        has_original_sections,
+        original_sections,
+        has_transformed_sections,
+        transformed_sections,
+    ))
 }
 
 #[no_mangle]
@@ -150,7 +220,12 @@ pub extern "C" fn gillacorn_rva_to_internal_offset<'s>(
     ensures { λ r. ⌜ r ≡ offsetAnswer (crossLocate «has_to_original» (now («to_original» .entry)) (held «has_original_sections» (now («original_sections» .entry))) rva) ⌝ }
 {
     let from = Rva(rva);
-    internal_offset_answer(from.to_internal_offset(has_original_sections, original_sections, has_to_original, to_original))
+    internal_offset_answer(from.to_internal_offset(
+        has_original_sections,
+        original_sections,
+        has_to_original,
+        to_original,
+    ))
 }
 
 #[no_mangle]
@@ -186,7 +261,14 @@ pub extern "C" fn gillacorn_internal_rva_to_section_offset<'s>(
     ensures { λ r. ⌜ r ≡ offsetAnswer (crossLocate «has_to_transformed» (now («to_transformed» .entry)) (actual «has_original_sections» (now («original_sections» .entry)) «has_transformed_sections» (now («transformed_sections» .entry))) rva) ⌝ }
 {
     let from = PdbInternalRva(rva);
-    section_offset_answer(from.to_section_offset(has_original_sections, original_sections, has_transformed_sections, transformed_sections, has_to_transformed, to_transformed))
+    section_offset_answer(from.to_section_offset(
+        has_original_sections,
+        original_sections,
+        has_transformed_sections,
+        transformed_sections,
+        has_to_transformed,
+        to_transformed,
+    ))
 }
 
 #[no_mangle]
@@ -223,7 +305,12 @@ pub extern "C" fn gillacorn_offset_to_rva<'s>(
     ensures { λ r. ⌜ r ≡ valueOf (addressSpec (actual «has_original_sections» (now («original_sections» .entry)) «has_transformed_sections» (now («transformed_sections» .entry))) (record { section = section; offset = offset })) ⌝ }
 {
     let from = SectionOffset { offset, section };
-    rva_value(from.to_rva(has_original_sections, original_sections, has_transformed_sections, transformed_sections))
+    rva_value(from.to_rva(
+        has_original_sections,
+        original_sections,
+        has_transformed_sections,
+        transformed_sections,
+    ))
 }
 
 #[no_mangle]
@@ -242,7 +329,14 @@ pub extern "C" fn gillacorn_offset_to_internal_rva<'s>(
     ensures { λ r. ⌜ r ≡ valueOf (placeCross (actual «has_original_sections» (now («original_sections» .entry)) «has_transformed_sections» (now («transformed_sections» .entry))) «has_to_original» (now («to_original» .entry)) (record { section = section; offset = offset })) ⌝ }
 {
     let from = SectionOffset { offset, section };
-    internal_rva_value(from.to_internal_rva(has_original_sections, original_sections, has_transformed_sections, transformed_sections, has_to_original, to_original))
+    internal_rva_value(from.to_internal_rva(
+        has_original_sections,
+        original_sections,
+        has_transformed_sections,
+        transformed_sections,
+        has_to_original,
+        to_original,
+    ))
 }
 
 #[no_mangle]
@@ -261,7 +355,14 @@ pub extern "C" fn gillacorn_offset_to_internal_offset<'s>(
     ensures { λ r. ⌜ r ≡ offsetAnswer (ifTransformed «has_transformed_sections» (placeCrossLocate (now («transformed_sections» .entry)) «has_to_original» (now («to_original» .entry)) (held «has_original_sections» (now («original_sections» .entry))) (record { section = section; offset = offset })) (record { section = section; offset = offset })) ⌝ }
 {
     let from = SectionOffset { offset, section };
-    internal_offset_answer(from.to_internal_offset(has_original_sections, original_sections, has_transformed_sections, transformed_sections, has_to_original, to_original))
+    internal_offset_answer(from.to_internal_offset(
+        has_original_sections,
+        original_sections,
+        has_transformed_sections,
+        transformed_sections,
+        has_to_original,
+        to_original,
+    ))
 }
 
 #[no_mangle]
@@ -280,7 +381,12 @@ pub extern "C" fn gillacorn_internal_offset_to_rva<'s>(
     ensures { λ r. ⌜ r ≡ valueOf (placeCross (held «has_original_sections» (now («original_sections» .entry))) «has_to_transformed» (now («to_transformed» .entry)) (record { section = section; offset = offset })) ⌝ }
 {
     let from = PdbInternalSectionOffset { offset, section };
-    rva_value(from.to_rva(has_original_sections, original_sections, has_to_transformed, to_transformed))
+    rva_value(from.to_rva(
+        has_original_sections,
+        original_sections,
+        has_to_transformed,
+        to_transformed,
+    ))
 }
 
 #[no_mangle]
@@ -318,5 +424,12 @@ pub extern "C" fn gillacorn_internal_offset_to_section_offset<'s>(
     ensures { λ r. ⌜ r ≡ offsetAnswer (ifTransformed «has_transformed_sections» (placeCrossLocate (held «has_original_sections» (now («original_sections» .entry))) «has_to_transformed» (now («to_transformed» .entry)) (now («transformed_sections» .entry)) (record { section = section; offset = offset })) (record { section = section; offset = offset })) ⌝ }
 {
     let from = PdbInternalSectionOffset { offset, section };
-    section_offset_answer(from.to_section_offset(has_original_sections, original_sections, has_transformed_sections, transformed_sections, has_to_transformed, to_transformed))
+    section_offset_answer(from.to_section_offset(
+        has_original_sections,
+        original_sections,
+        has_transformed_sections,
+        transformed_sections,
+        has_to_transformed,
+        to_transformed,
+    ))
 }

@@ -2,7 +2,6 @@
 ghost use mathlib.Core.Path.{_≡_};
 ghost use Rattle.clash.specs.Clash.{toldClashed, clashSpec, toldBack, backSpec};
 ghost use Rattle.gillacorn.specs.Clashes.{pairOf, sourcesShown};
-
 use crate::code::number_of;
 use clash::Back;
 use clash::Clashed;

@@ -3,7 +3,6 @@ ghost use mathlib.Core.Path.{_≡_};
 ghost use Rattle.lent.specs.Paper.{number};
 ghost use Rattle.omap.specs.Lookup.{toldLooked};
 ghost use Rattle.gillacorn.specs.Code.{valueOf};
-
 use lent::Refusal;
 use omap::Looked;
 

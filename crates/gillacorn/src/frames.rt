@@ -7,7 +7,6 @@ ghost use Rattle.framedata.specs.Step.{toldStep, stepSpec};
 ghost use Rattle.framedata.specs.Start.{toldStarted, startSpec};
 ghost use Rattle.framedata.specs.Tables.{toldEmptiness, emptySpec};
 ghost use Rattle.gillacorn.specs.Frames.{isThere, or0, shownOf, noFrame, frameAnswer, startingOf, frameStepOf, yesOf};
-
 use crate::code::Value;
 use crate::code::number_of;
 use framedata::Emptiness;

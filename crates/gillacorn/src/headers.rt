@@ -7,7 +7,6 @@ ghost use Rattle.pe.specs.Flags.{alignmentSpec, toldAlignment};
 ghost use Rattle.pe.specs.Name.{nameSpec};
 ghost use Rattle.gillacorn.specs.Code.{codeOf, valueOf};
 ghost use Rattle.gillacorn.specs.Headers.{headerAnswer, flagsOf};
-
 use crate::code::Value;
 use crate::code::number_of;
 use pe::Alignment;
@@ -61,8 +60,14 @@ fn aligned(alignment: Alignment) -> Value
     ensures { λ r. ⌜ r ≡ valueOf (toldAlignment alignment) ⌝ }
 {
     match alignment {
-        Alignment::Bytes(n) => Value { code: 0, value: n as u32 },
-        Alignment::Nothing => Value { code: 255, value: 0 },
+        Alignment::Bytes(n) => Value {
+            code: 0,
+            value: n as u32,
+        },
+        Alignment::Nothing => Value {
+            code: 255,
+            value: 0,
+        },
     }
 }
 
@@ -73,7 +78,10 @@ pub extern "C" fn gillacorn_header(table: &[u8], place: usize) -> HeaderAnswer
     let headed = pe::header_at(table, place);
     let given = headed.given;
     let header = headed.header;
-    HeaderAnswer { code: code_of(given), header }
+    HeaderAnswer {
+        code: code_of(given),
+        header,
+    }
 }
 
 #[no_mangle]

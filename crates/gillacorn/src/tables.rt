@@ -7,10 +7,9 @@ ghost use Rattle.omap.specs.Output.{toldWindowed, windowSpec, windowOut};
 ghost use Rattle.omap.specs.Step.{toldStarted, startSpec, toldStep, stepSpec};
 ghost use Rattle.gillacorn.specs.Code.{valueOf};
 ghost use Rattle.gillacorn.specs.Tables.{recordOf, piecesOf, startedOf, steppingOf};
-
 use crate::code::Value;
-use crate::code::value_of;
 use crate::code::number_of;
+use crate::code::value_of;
 use omap::Recorded;
 use omap::cursor::Cursor;
 use omap::cursor::Step;
