@@ -1,9 +1,9 @@
 -- The answers of the clash check and the way back: by refusals, and by the window's pieces, from which they are computed.
 -- Assumes nothing.
-use mathlib.Core.Path.{_≡_, refl, sym, ap, _∙_, subst}
+use mathlib.Core.Path.{_≡_, refl, ap, _∙_}
 use Prim.Native.Nat.{ℕ, _≤_}
 use native.Mathlib.Omega.{arith}
-use mathlib.Core.Bool.{Bool, true, false, cond}
+use mathlib.Core.Bool.{true, false, cond}
 use mathlib.Core.List.{List}
 use mathlib.Core.Option.{Option, none, some}
 use Rattle.lent.specs.Order.{rising}
@@ -13,7 +13,7 @@ use Rattle.omap.specs.Window.{pieces}
 use Rattle.omap.specs.Output.{allFit}
 use Rattle.omap.specs.Expand.{range}
 use Rattle.omap.proofs.Last.{sources-keys, in-order}
-use Rattle.clash.specs.Clash.{Pair, Sources, sourcesOf, firstClash, leastTwo, inWindow, clashSpec, backSpec}
+use Rattle.clash.specs.Clash.{sourcesOf, firstClash, leastTwo, inWindow, clashSpec, backSpec}
 use Rattle.clash.specs.Meet.{sourcesIn, clashOf, backOf}
 use Rattle.clash.proofs.Runs.{sources-by-pieces, clash-by-pieces}
 

@@ -9,15 +9,15 @@ use mathlib.Core.Bool.{true}
 use mathlib.Core.List.{List, [], _∷_}
 use mathlib.Core.Option.{Option, none, some}
 use Rattle.lent.specs.Order.{rising}
-use Rattle.lent.specs.Paper.{Told, value, nothing}
-use Rattle.omap.specs.Records.{records, sources, omapFault, single}
-use Rattle.omap.specs.Lookup.{fitted, lookupSpec}
+use Rattle.lent.specs.Paper.{value, nothing}
+use Rattle.omap.specs.Records.{records, omapFault, single}
+use Rattle.omap.specs.Lookup.{lookupSpec}
 use Rattle.omap.specs.Window.{pieces}
 use Rattle.omap.specs.Output.{allFit}
 use Rattle.omap.specs.Expand.{range}
 use Rattle.omap.proofs.Last.{sources-keys, in-order}
 use borrow.Author.Tests.{le-leb}
-use Rattle.clash.specs.Clash.{Pair, Sources, one, two, sourcesOf, firstClash, leastTwo, clashSpec, backSpec}
+use Rattle.clash.specs.Clash.{Pair, one, two, sourcesOf, firstClash, leastTwo, clashSpec, backSpec}
 use Rattle.clash.specs.Demand.{Source, Clash, LeastClash, OneSource, TwoSources}
 use Rattle.clash.proofs.Pairs.{no-pieces}
 use Rattle.clash.proofs.Runs.{sources-by-pieces}
@@ -134,9 +134,43 @@ module _ (s : List ℕ) (a b : ℕ) (good : omapFault s ≡ none) (fit : allFit 
     pub two-back : (x y : ℕ) → TwoSources f a b t x y → backSpec s a b t ≡ value (two x y)
     two-back x y w = back-is t ∙ two-told f a b t (sourcesOf f t (range a b)) x y refl w
 
-    -- in a window that is single, an address that lands on t is what going back yields
-    pub back-single : clashSpec s a b ≡ value none → (x : ℕ) → Source f a b t x → backSpec s a b t ≡ value (one x)
-    back-single e x w = one-back x (record { is = w; only = λ v u. single-is e t v x u w })
+    -- there is no other answer
+    pub record BackOne : Type 0 where
+      pub source : ℕ
+      pub is : backSpec s a b t ≡ value (one source)
+
+    pub record BackTwo : Type 0 where
+      pub source : ℕ
+      pub next : ℕ
+      pub is : backSpec s a b t ≡ value (two source next)
+
+    by-sources : (l : List ℕ) → sourcesOf f t (range a b) ≡ l → (backSpec s a b t ≡ nothing) ⊎ (BackOne ⊎ BackTwo)
+    unfolding leastTwo
+    by-sources [] e = inl (back-is t ∙ ap leastTwo e)
+    by-sources (x ∷ []) e = inr (inl (record { source = x; is = back-is t ∙ ap leastTwo e }))
+    by-sources (x ∷ (y ∷ l)) e = inr (inr (record { source = x; next = y; is = back-is t ∙ ap leastTwo e }))
+
+    pub back-answers : (backSpec s a b t ≡ nothing) ⊎ (BackOne ⊎ BackTwo)
+    back-answers = by-sources (sourcesOf f t (range a b)) refl
+
+    -- in a window that is single, going back yields none or the one source, and an address that lands on t is that one
+    module _ (e : clashSpec s a b ≡ value none) where
+      pub single-back : (backSpec s a b t ≡ nothing) ⊎ BackOne
+      single-back =
+          ⊎-elim
+          (λ (n : backSpec s a b t ≡ nothing). inl n)
+          (λ (m : BackOne ⊎ BackTwo).
+          ⊎-elim
+          (λ (o : BackOne). inr o)
+          (λ (w : BackTwo).
+          let r = back-two (w .source) (w .next) (w .is) in
+          let l : w .source < w .next = r .apart in
+          absurd (omega (arith, single-is e t (w .source) (w .next) (r .first) (r .second))))
+          m)
+          back-answers
+
+      pub source-back : (x : ℕ) → Source f a b t x → backSpec s a b t ≡ value (one x)
+      source-back x w = one-back x (record { is = w; only = λ v u. single-is e t v x u w })
 
 -- the empty window is single, and going back in it gives none
 module _ (s : List ℕ) (a b : ℕ) (good : omapFault s ≡ none) (h : b ≤ a) where

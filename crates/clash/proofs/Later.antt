@@ -1,11 +1,11 @@
 -- The records that begin below a window's end, past the one whose piece is searched: their pieces, and what each adds to the search.
 -- Assumes nothing.
-use mathlib.Core.Path.{_≡_, refl, sym, ap, _∙_, subst}
-use mathlib.Core.Logic.{_⊎_, inl, inr, ⊎-elim}
-use Prim.Native.Nat.{ℕ, zero, suc, _+_, _-_, _*_, _/_, _^_, _≤_, _<_, max, min}
+use mathlib.Core.Path.{_≡_, refl, sym, ap, _∙_}
+use mathlib.Core.Logic.{_⊎_, ⊎-elim}
+use Prim.Native.Nat.{ℕ, zero, suc, _+_, _-_, _*_, _/_, _≤_, _<_, max, min}
 use native.Mathlib.Omega.{arith}
 use native.Mathlib.Nat.{eq-zero-or-pos}
-use mathlib.Core.Bool.{Bool, true, false, cond}
+use mathlib.Core.Bool.{true, cond}
 use mathlib.Core.List.{List, [], _∷_}
 use mathlib.Core.Option.{Option, none, some}
 use lib.ListN.{length}
@@ -17,15 +17,15 @@ use Rattle.lent.specs.Order.{keyAt, keys, rising, UpTo}
 use Rattle.lent.proofs.Rising.{each, in-place}
 use Rattle.lent.proofs.Field.{Bytes, below}
 use Rattle.lent.proofs.Logic.{lt-or-le}
-use Rattle.omap.specs.Records.{Entry, entryAt, rest, orElse}
-use Rattle.omap.specs.Window.{Piece, nextOf, pieceOf, put, pieces}
+use Rattle.omap.specs.Records.{entryAt, rest, orElse}
+use Rattle.omap.specs.Window.{Piece, nextOf, pieceOf, pieces}
 use Rattle.omap.specs.Part.{partAt}
 use Rattle.omap.proofs.Last.{src}
 use Rattle.omap.proofs.Expansion.{or-some}
 use Rattle.omap.proofs.Pieces.{next-some, next-none, piece-zero, piece-some, piece-is, step-none, step-some, none-left, past-none}
 use Rattle.clash.specs.Clash.{Pair}
 use Rattle.clash.specs.Meet.{firstMet}
-use Rattle.clash.proofs.Meetings.{met-nothing, met-high, met-low, met-here, met-first, or-nothing}
+use Rattle.clash.proofs.Meetings.{met-high, met-low, met-here, met-first, or-nothing}
 
 -- the target of the record at place j
 abbrev pub tgt : List ℕ → ℕ → ℕ

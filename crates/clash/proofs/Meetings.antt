@@ -1,13 +1,10 @@
 -- The first target that some pieces meet, one piece at a time.
 -- Assumes nothing.
-use mathlib.Core.Path.{_≡_, refl, sym, ap, _∙_, subst}
-use mathlib.Core.Logic.{_⊎_, inl, inr, ⊎-elim}
+use mathlib.Core.Path.{_≡_, refl, ap, _∙_}
 use Prim.Native.Nat.{ℕ, zero, suc, _+_, _-_, _≤_, _<_}
 use native.Mathlib.Omega.{arith}
-use mathlib.Core.Bool.{Bool, true, false, cond}
 use mathlib.Core.List.{List, [], _∷_}
 use mathlib.Core.Option.{Option, none, some}
-use Rattle.lent.proofs.Logic.{lt-or-le}
 use Rattle.omap.specs.Records.{orElse}
 use Rattle.omap.specs.Window.{Piece, put}
 use Rattle.clash.specs.Clash.{Pair, pairedOr}

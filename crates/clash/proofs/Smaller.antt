@@ -1,21 +1,20 @@
 -- In a smaller window the pieces fit, and the targets of a window's addresses fit with its pieces.
 -- Assumes nothing.
-use mathlib.Core.Path.{_≡_, refl, sym, ap, _∙_, subst}
+use mathlib.Core.Path.{_≡_, refl, _∙_}
 use mathlib.Core.Logic.{⊎-elim}
-use Prim.Native.Nat.{ℕ, zero, suc, _+_, _-_, _≤_, _<_, max, min}
+use Prim.Native.Nat.{ℕ, _+_, _-_, _≤_, _<_, max, min}
 use native.Mathlib.Nat.{eq-zero-or-pos}
 use native.Mathlib.Omega.{arith}
-use mathlib.Core.Bool.{Bool, true, false, _&&_}
+use mathlib.Core.Bool.{true}
 use mathlib.Core.List.{List, [], _∷_}
-use mathlib.Core.Option.{Option, none, some}
-use borrow.Author.Tests.{le-leb, leb-true}
+use borrow.Author.Tests.{leb-true}
 use Rattle.lent.proofs.Logic.{lt-or-le, and-left, and-right}
 use Rattle.omap.specs.Records.{Entry}
 use Rattle.omap.specs.Window.{Piece, nextOf, pieceOf, put, pieces}
 use Rattle.omap.specs.Output.{shown, fits, allFit}
 use Rattle.omap.proofs.Pieces.{piece-empty, piece-zero, piece-some, fit-more}
-use Rattle.clash.specs.Meet.{sourceIn, sourcesIn}
-use Rattle.clash.proofs.Runs.{source-below, source-past}
+use Rattle.clash.specs.Meet.{sourcesIn}
+use Rattle.clash.proofs.Runs.{source-past}
 
 first-fits : (p : Piece) (l : List Piece) → allFit (p ∷ l) ≡ true → p .to + p .size ≤ 4294967295
 unfolding allFit fits shown

@@ -1,20 +1,20 @@
 -- What the answers say of the addresses, over any translation: the least clash is one, and the sources found are none, one, or the two least.
 -- Assumes nothing.
-use mathlib.Core.Path.{_≡_, refl, sym, ap, _∙_, subst}
+use mathlib.Core.Path.{_≡_, refl, sym, ap, _∙_}
 use mathlib.Core.Logic.{_⊎_, inl, inr, ⊎-elim}
-use Prim.Native.Nat.{ℕ, suc, _+_, _-_, _≤_, _<_}
+use Prim.Native.Nat.{ℕ, suc, _-_, _≤_, _<_}
 use native.Mathlib.Omega.{arith}
 use mathlib.Core.Bool.{Bool, true, false, cond}
 use mathlib.Core.List.{List, [], _∷_}
 use mathlib.Core.Option.{Option, none, some}
-use Rattle.lent.specs.Paper.{Told, value, nothing, refused, unless}
+use Rattle.lent.specs.Paper.{value, nothing, refused, unless}
 use Rattle.lent.proofs.Logic.{lt-or-le}
 use lib.Dec.{leb}
 use Rattle.omap.specs.Lookup.{fitted}
 use Rattle.omap.specs.Expand.{range}
 use Rattle.clash.specs.Clash.{Pair, one, two, sourcesOf, leastTwo}
 use Rattle.clash.specs.Demand.{Source, Clash, LeastClash, OneSource, TwoSources}
-use Rattle.clash.proofs.Addresses.{First, no-source, a-source}
+use Rattle.clash.proofs.Addresses.{no-source, a-source}
 
 -- an answer given means that no refusal was
 pub given : (o : Option ℕ) (t : Bool) (v w : Option Pair) → unless o (cond t (value v) (refused 4)) ≡ value w → (o ≡ none) × ((t ≡ true) × (v ≡ w))

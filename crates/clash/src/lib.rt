@@ -2,11 +2,10 @@
 ghost use mathlib.Core.Path.{_≡_};
 ghost use mathlib.Core.Bool.{true};
 ghost use mathlib.Core.List.{List, _∷_, _++_};
-ghost use Prim.Native.Nat.{ℕ, _+_, _-_, _*_, _/_, _≤_, _<_, min};
-ghost use lib.ListN.{length};
-ghost use Rattle.lent.specs.Paper.{Told, value};
+ghost use Prim.Native.Nat.{ℕ, _+_, _-_, _<_, min};
+ghost use Rattle.lent.specs.Paper.{value};
 ghost use Rattle.lent.specs.Order.{rising, keys, UpTo};
-ghost use Rattle.omap.specs.Records.{records, rest, single};
+ghost use Rattle.omap.specs.Records.{records, rest};
 ghost use Rattle.omap.specs.Window.{nextOf, pieces};
 ghost use Rattle.clash.specs.Clash.{toldClashed, clashSpec, toldBack, backSpec, leastTwo};
 ghost use Rattle.clash.specs.Meet.{firstMet, clashOf, toldMet, backOf, soFar};

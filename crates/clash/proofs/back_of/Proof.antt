@@ -1,12 +1,7 @@
 -- `clash::back_of` meets its contract: each case by computation.
 -- Assumes nothing.
-use Prim.Native.Nat.{ℕ, zero, suc, _+_, _-_, _*_, _/_, _≤_, _<_, max, min}
-use mathlib.Core.Path.{_≡_, refl, sym, ap, _∙_, subst}
-use native.Mathlib.Omega.{arith}
-use mathlib.Core.Option.{Option, none, some}
-use mathlib.Core.List.{List, [], _∷_, _++_}
-use lib.ListN.{length}
-use denote.Ref.{now}
+use Prim.Native.Nat.{_-_}
+use mathlib.Core.Path.{sym, ap}
 use Rattle.clash.specs.Clash.{leastTwo}
 use Rattle.clash.specs.Meet.{soFar}
 use Rattle.clash.specs.declared.Found.{Found}

@@ -1,9 +1,8 @@
 -- `clash::clash` meets its contract: each answer by the check, the count and the search.
 -- Assumes nothing.
-use Prim.Native.Nat.{ℕ, _≤_}
 use mathlib.Core.Path.{_≡_, sym, ap, _∙_}
 use native.Mathlib.Omega.{arith}
-use mathlib.Core.Option.{none, some}
+use mathlib.Core.Option.{none}
 use denote.Ref.{now}
 use Rattle.lent.specs.Paper.{number, toldChecked}
 use Rattle.omap.specs.Records.{records, omapFault}

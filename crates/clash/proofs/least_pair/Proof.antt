@@ -1,21 +1,18 @@
 -- `clash::least_pair` meets its contract: the records left have the least pair of all.
 -- Assumes nothing.
 use borrow.Author.Needs.{needs}
-use Prim.Native.Nat.{ℕ, zero, suc, _+_, _-_, _*_, _/_, _≤_, _<_, max, min}
-use mathlib.Core.Path.{_≡_, refl, sym, ap, _∙_, subst}
+use Prim.Native.Nat.{ℕ, _+_, _-_, _≤_, _<_}
+use mathlib.Core.Path.{_≡_, sym, ap, _∙_}
 use native.Mathlib.Omega.{arith}
-use mathlib.Core.Option.{Option, none, some}
-use mathlib.Core.List.{List, [], _∷_, _++_}
-use lib.ListN.{length}
+use mathlib.Core.Option.{some}
+use mathlib.Core.List.{List}
 use denote.Ref.{now}
 use Rattle.lent.specs.Paper.{value}
-use Rattle.lent.specs.Order.{UpTo}
 use Rattle.omap.specs.Records.{records, rest}
 use Rattle.omap.specs.Window.{Piece, pieces}
 use Rattle.omap.specs.Part.{partAt}
 use Rattle.omap.proofs.Last.{src}
 use Rattle.omap.proofs.Pieces.{was-past, was-empty, was-piece, step-none, past-none, piece-small}
-use Rattle.clash.specs.Clash.{Pair}
 use Rattle.clash.specs.Meet.{clashOf, toldMet}
 use Rattle.clash.proofs.Later.{none-after}
 use Rattle.clash.proofs.Pairs.{Meets, no-pieces, no-clash, sized, unmet, met, met-inside}

@@ -3,15 +3,14 @@
 use mathlib.Core.Bool.{true}
 use Rattle.lent.specs.Order.{rising, keys, UpTo}
 use Rattle.lent.proofs.Field.{Bytes}
-use Prim.Native.Nat.{ℕ, zero, suc, _+_, _-_, _*_, _/_, _≤_, _<_, max, min}
-use mathlib.Core.Path.{_≡_, refl, sym, ap, _∙_, subst}
+use Prim.Native.Nat.{ℕ, _+_, _-_, _≤_, _<_}
+use mathlib.Core.Path.{_≡_, sym, ap, _∙_}
 use native.Mathlib.Omega.{arith}
 use mathlib.Core.Option.{Option, none, some}
-use mathlib.Core.List.{List, [], _∷_, _++_}
-use lib.ListN.{length}
+use mathlib.Core.List.{List}
 use denote.Ref.{now}
 use Rattle.omap.specs.Records.{rest, orElse}
-use Rattle.omap.specs.Window.{Piece, nextOf, pieces}
+use Rattle.omap.specs.Window.{Piece, pieces}
 use Rattle.omap.proofs.Last.{src}
 use Rattle.clash.specs.Clash.{Pair}
 use Rattle.clash.specs.Meet.{firstMet}

@@ -2,21 +2,18 @@
 -- Assumes nothing.
 use Rattle.clash.proofs.Backs.{backAfter, back-first, back-last, back-large, back-below, back-past, back-here}
 use borrow.Author.Needs.{needs}
-use Prim.Native.Nat.{ℕ, zero, suc, _+_, _-_, _*_, _/_, _≤_, _<_, max, min}
-use mathlib.Core.Path.{_≡_, refl, sym, ap, _∙_, subst}
+use Prim.Native.Nat.{_+_, _-_, _≤_}
+use mathlib.Core.Path.{_≡_, sym, ap, _∙_}
 use native.Mathlib.Omega.{arith}
-use mathlib.Core.Option.{Option, none, some}
-use mathlib.Core.List.{List, [], _∷_, _++_}
-use lib.ListN.{length}
+use mathlib.Core.Option.{some}
+use mathlib.Core.List.{List, _∷_}
 use denote.Ref.{now}
 use Rattle.omap.specs.Records.{records, rest}
 use Rattle.omap.specs.Window.{Piece, pieces}
-use Rattle.omap.specs.Output.{allFit}
 use Rattle.omap.specs.Part.{partAt}
 use Rattle.omap.proofs.Last.{src}
-use Rattle.omap.proofs.Pieces.{was-past, was-empty, was-piece, step-none, step-some, none-left, past-none, fit-more, fit-not, piece-small}
-use Rattle.clash.specs.Clash.{leastTwo}
-use Rattle.clash.specs.Meet.{sourcesIn, soFar, backOf}
+use Rattle.omap.proofs.Pieces.{was-past, was-empty, was-piece, step-none, step-some, none-left, past-none, piece-small}
+use Rattle.clash.specs.Meet.{soFar, backOf}
 use Rattle.clash.proofs.sources.Statement.{statement}
 use Rattle.clash.proofs.sources.Tie as tie
 use Rattle.clash.proofs.sources.Reads as reads

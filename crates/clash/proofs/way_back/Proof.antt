@@ -1,13 +1,11 @@
 -- `clash::way_back` meets its contract: each answer by the check and the walk.
 -- Assumes nothing.
-use Prim.Native.Nat.{ℕ, _≤_}
 use mathlib.Core.Path.{_≡_, sym, ap, _∙_}
 use native.Mathlib.Omega.{arith}
-use mathlib.Core.Option.{none, some}
+use mathlib.Core.Option.{none}
 use denote.Ref.{now}
 use Rattle.lent.specs.Paper.{number, toldChecked}
-use Rattle.omap.specs.Records.{records, omapFault}
-use Rattle.omap.specs.Window.{pieces}
+use Rattle.omap.specs.Records.{omapFault}
 use Rattle.omap.proofs.Last.{in-order}
 use Rattle.clash.proofs.Answers.{back-refused, back-given}
 use borrow.Author.Needs.{needs}

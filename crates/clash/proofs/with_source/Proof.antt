@@ -1,12 +1,8 @@
 -- `clash::with_source` meets its contract: each case by computation.
 -- Assumes nothing.
-use Prim.Native.Nat.{ℕ, zero, suc, _+_, _-_, _*_, _/_, _≤_, _<_, max, min}
-use mathlib.Core.Path.{_≡_, refl, sym, ap, _∙_, subst}
-use native.Mathlib.Omega.{arith}
-use mathlib.Core.Option.{Option, none, some}
-use mathlib.Core.List.{List, [], _∷_, _++_}
-use lib.ListN.{length}
-use denote.Ref.{now}
+use Prim.Native.Nat.{_+_, _-_}
+use mathlib.Core.Path.{ap}
+use mathlib.Core.List.{_∷_, _++_}
 use Rattle.clash.specs.Clash.{leastTwo}
 use Rattle.clash.specs.Meet.{soFar}
 use Rattle.clash.specs.declared.Found.{Found}
