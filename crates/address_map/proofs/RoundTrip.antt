@@ -3,18 +3,16 @@
 -- Assumes nothing.
 use mathlib.Core.Path.{_≡_, refl, sym, ap, _∙_, subst}
 use mathlib.Core.Logic.{_⊎_, inl, inr, ⊎-elim}
-use Prim.Native.Nat.{ℕ, zero, suc, _+_, _-_, _*_, _/_, _≤_, _<_}
-use native.Mathlib.Nat.{eq-or-lt-of-le}
+use Prim.Native.Nat.{ℕ, zero, suc, _+_, _-_, _/_, _≤_, _<_}
 use native.Mathlib.Omega.{arith}
 use mathlib.Core.Bool.{Bool, true, false, cond}
-use mathlib.Core.List.{List, [], _∷_}
+use mathlib.Core.List.{List}
 use mathlib.Core.Option.{Option, none, some}
 use lib.ListN.{length}
 use lib.Dec.{ltb, leb}
-use borrow.Author.Tests.{leb-true, ltb-true}
-use Rattle.lent.specs.Paper.{Told, value, nothing, refused, unless}
+use borrow.Author.Tests.{leb-true}
+use Rattle.lent.specs.Paper.{Told, value, nothing, unless}
 use Rattle.lent.specs.Table.{listed, sectionShape}
-use Rattle.lent.proofs.Logic.{which}
 use Rattle.pe.specs.Header.{headerAt}
 use Rattle.pe.specs.Extent.{extent}
 use Rattle.address_map.specs.Sections.{Offset, walk, sectionSpec, addressSpec}

@@ -1,6 +1,6 @@
 -- The next step of a path, by what the step before it gave.
 -- Assumes nothing.
-use mathlib.Core.Path.{_≡_, refl}
+use mathlib.Core.Path.{_≡_}
 use Prim.Native.Nat.{ℕ}
 use Rattle.lent.specs.Paper.{Told, value, nothing, refused, andThen}
 

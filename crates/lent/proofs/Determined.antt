@@ -1,8 +1,6 @@
 -- The paper's number says which refusal it was: a promise in the paper's terms leaves one answer.
 -- Assumes nothing.
 use mathlib.Core.Path.{_≡_, refl}
-use Prim.Native.Nat.{ℕ}
-use mathlib.Core.Option.{none, some}
 use Rattle.lent.specs.Paper.{number, toldChecked}
 use Rattle.lent.specs.declared.Refusal.{Refusal}
 use Rattle.lent.specs.declared.Refusal.the-variants.{Length, Count, Order}

@@ -1,9 +1,8 @@
 -- The places of records: each lies inside the table; and the list of what stands at them, one place at a time.
 -- Assumes nothing.
-use mathlib.Core.Path.{_≡_, refl, sym, ap, _∙_, subst}
-use mathlib.Core.Logic.{⊎-elim}
+use mathlib.Core.Path.{_≡_, refl, sym, ap}
 use Prim.Native.Nat.{ℕ, zero, suc, _+_, _-_, _*_, _/_, _≤_, _<_}
-use native.Mathlib.Nat.{mul-div-le, mul-le-mul-left, sub-zero, mul-one, mul-add, eq-or-lt-of-le}
+use native.Mathlib.Nat.{mul-div-le, mul-le-mul-left, sub-zero, mul-one, mul-add}
 use native.Mathlib.Numerals.{add-one}
 use native.Mathlib.Omega.{arith}
 use mathlib.Core.List.{List, [], _∷_, map}

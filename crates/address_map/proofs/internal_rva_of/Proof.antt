@@ -1,13 +1,10 @@
 -- `address_map::internal_rva_of` meets its contract: the same answer, of its own kind.
 -- Assumes nothing.
-use mathlib.Core.Path.{_≡_, refl, sym, ap, _∙_, subst}
-use denote.Ref.{now}
+use mathlib.Core.Path.{sym, ap}
 use Rattle.omap.specs.Lookup.{toldLooked}
 use borrow.Author.Needs.{needs}
 use Rattle.address_map.proofs.internal_rva_of.Statement.{statement}
 use Rattle.address_map.proofs.internal_rva_of.Tie as tie
-use Rattle.address_map.proofs.internal_rva_of.Reads as reads
-use Rattle.address_map.proofs.internal_rva_of.Lts as lts
 
 enum-known-looked : tie.Need-enum-known-looked
 enum-known-looked c = search needs

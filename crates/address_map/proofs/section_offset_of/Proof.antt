@@ -1,13 +1,10 @@
 -- `address_map::section_offset_of` meets its contract: the same answer, of its own kind.
 -- Assumes nothing.
-use mathlib.Core.Path.{_≡_, refl, sym, ap, _∙_, subst}
-use denote.Ref.{now}
+use mathlib.Core.Path.{sym, ap}
 use Rattle.address_map.specs.Sections.{toldLocated}
 use borrow.Author.Needs.{needs}
 use Rattle.address_map.proofs.section_offset_of.Statement.{statement}
 use Rattle.address_map.proofs.section_offset_of.Tie as tie
-use Rattle.address_map.proofs.section_offset_of.Reads as reads
-use Rattle.address_map.proofs.section_offset_of.Lts as lts
 
 enum-known-located : tie.Need-enum-known-located
 enum-known-located c = search needs

@@ -1,7 +1,6 @@
 -- `lent::check` meets its contract: the refusal of the shape, or else that of the order.
 -- Assumes nothing.
 use mathlib.Core.Path.{_≡_, sym, ap, _∙_}
-use mathlib.Core.Bool.{true, false}
 use mathlib.Core.Option.{none, some}
 use denote.Ref.{now}
 use Rattle.lent.specs.Paper.{number, toldChecked}
@@ -10,10 +9,6 @@ use Rattle.lent.specs.Order.{tableFault}
 use borrow.Author.Needs.{needs}
 use Rattle.lent.proofs.check.Statement.{statement}
 use Rattle.lent.proofs.check.Tie as tie
-use Rattle.lent.proofs.check.Reads as reads
-use Rattle.lent.proofs.check.Lts as lts
-use Rattle.lent.proofs.in_order.Reads as in-order-reads
-use Rattle.lent.proofs.shape.Reads as shape-reads
 
 shape-requires : tie.Need-shape-requires
 shape-requires c κs = search needs

@@ -1,11 +1,10 @@
 -- `lent::in_order` meets its contract: what is left of the order is that of the keys not yet passed.
 -- Assumes nothing.
-use Prim.Native.Nat.{ℕ, zero, suc, _+_, _-_, _*_, _/_, _%_, _≤_, _<_}
+use Prim.Native.Nat.{_-_, _/_, _≤_}
 use mathlib.Core.Path.{_≡_, refl, sym, ap, _∙_}
 use native.Mathlib.Omega.{arith}
 use lib.ListN.{length}
 use denote.Ref.{now}
-use mathlib.Core.Bool.{true, false}
 use native.Mathlib.Nat.{mul-zero, div-le-self}
 use Rattle.lent.specs.Le.{leAt}
 use Rattle.lent.specs.Table.{listed}
@@ -14,9 +13,6 @@ use Rattle.lent.proofs.Place.{inside}
 use Rattle.lent.proofs.Rising.{after-up, after-down, rising-first, rising-none, rising-all}
 use Rattle.lent.proofs.in_order.Statement.{statement}
 use Rattle.lent.proofs.in_order.Tie as tie
-use Rattle.lent.proofs.in_order.Reads as reads
-use Rattle.lent.proofs.in_order.Lts as lts
-use Rattle.lent.proofs.u32_at.Reads as u32-at-reads
 
 abbrev Inv-loop : tie.InvT-loop
 Inv-loop table width n before₀ i₀ before i = (1 ≤ i) × ((i ≤ n) × ((n ≡ length table / width) × (rising (keys width table) ≡ risingAfter before (listed (keyAt width table) i (n - i)))))

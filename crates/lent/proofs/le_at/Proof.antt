@@ -1,19 +1,15 @@
 -- `lent::le_at` meets its contract: from the last byte down, what is read so far is the field of the bytes passed.
 -- Assumes nothing.
-use Prim.Native.Nat.{ℕ, zero, suc, _+_, _-_, _*_, _^_, _≤_, _<_}
-use mathlib.Core.Path.{_≡_, refl}
+use Prim.Native.Nat.{_+_, _-_, _^_, _≤_, _<_}
+use mathlib.Core.Path.{_≡_}
 use native.Mathlib.Omega.{arith}
 use borrow.Author.Needs.{needs}
-use lib.ListN.{length}
 use denote.Ref.{now}
 use native.Mathlib.Nat.{pow-le-pow-right, sub-zero, add-zero}
 use Rattle.lent.specs.Le.{leAt}
 use Rattle.lent.proofs.Field.{below, step}
 use Rattle.lent.proofs.le_at.Statement.{statement}
 use Rattle.lent.proofs.le_at.Tie as tie
-use Rattle.lent.proofs.le_at.Reads as reads
-use Rattle.lent.proofs.le_at.Lts as lts
-use Rattle.lent.proofs.wide.Reads as wide-reads
 
 abbrev Inv-loop : tie.InvT-loop
 Inv-loop s at width acc₀ k₀ acc k = (k ≤ width) × (acc ≡ leAt (width - k) s (at + k))

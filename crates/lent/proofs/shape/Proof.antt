@@ -1,8 +1,6 @@
 -- `lent::shape` meets its contract, test by test.
 -- Assumes nothing.
-use Prim.Native.Nat.{ℕ, zero, suc, _+_, _-_, _*_, _/_, _%_, _≤_, _<_}
-use mathlib.Core.Path.{_≡_, refl, sym, ap, _∙_}
-use native.Mathlib.Omega.{arith}
+use Prim.Native.Nat.{_-_, _/_, _%_}
 use lib.ListN.{length}
 use denote.Ref.{now}
 use borrow.Author.Tests.{le-leb, lt-leb, eq-eqb, ne-eqb}
@@ -10,8 +8,6 @@ use Rattle.lent.specs.Table.{shapeFault}
 use borrow.Author.Needs.{needs}
 use Rattle.lent.proofs.shape.Statement.{statement}
 use Rattle.lent.proofs.shape.Tie as tie
-use Rattle.lent.proofs.shape.Reads as reads
-use Rattle.lent.proofs.shape.Lts as lts
 
 rem-if1 : tie.Need-rem-if1
 rem-if1 c = search needs

@@ -3,7 +3,6 @@
 use borrow.Author.Needs.{needs}
 use native.Mathlib.Omega.{arith}
 use denote.Ref.{now}
-use Rattle.lent.specs.Le.{leAt}
 use Rattle.lent.proofs.Field.{below}
 use Rattle.lent.proofs.u32_at.Statement.{statement}
 use Rattle.lent.proofs.u32_at.Tie as tie

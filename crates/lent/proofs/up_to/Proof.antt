@@ -1,19 +1,15 @@
 -- `lent::up_to` meets its contract: every key before `lo` is at most the address, and every one from `hi` on above it.
 -- Assumes nothing.
-use Prim.Native.Nat.{ℕ, zero, suc, _+_, _-_, _*_, _/_, _%_, _≤_, _<_}
-use mathlib.Core.Path.{_≡_, refl, sym, ap, _∙_}
+use Prim.Native.Nat.{ℕ, _+_, _-_, _/_, _≤_, _<_}
 use native.Mathlib.Omega.{arith}
 use lib.ListN.{length}
 use denote.Ref.{now}
 use native.Mathlib.Nat.{div-le-self}
-use Rattle.lent.specs.Order.{keyAt, UpTo}
+use Rattle.lent.specs.Order.{keyAt}
 use Rattle.lent.proofs.Place.{inside}
 use Rattle.lent.proofs.Rising.{in-place}
 use Rattle.lent.proofs.up_to.Statement.{statement}
 use Rattle.lent.proofs.up_to.Tie as tie
-use Rattle.lent.proofs.up_to.Reads as reads
-use Rattle.lent.proofs.up_to.Lts as lts
-use Rattle.lent.proofs.u32_at.Reads as u32-at-reads
 
 abbrev Inv-loop : tie.InvT-loop
 Inv-loop table width address lo₀ hi₀ lo hi = (lo ≤ hi) × ((hi ≤ length table / width)

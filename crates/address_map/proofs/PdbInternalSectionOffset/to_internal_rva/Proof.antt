@@ -1,16 +1,11 @@
 -- `address_map::PdbInternalSectionOffset::to_internal_rva` meets its contract: its path, and the kind of the answer.
 -- Assumes nothing.
-use mathlib.Core.Path.{_≡_, refl, sym, ap, _∙_, subst}
+use mathlib.Core.Path.{_∙_}
 use borrow.Author.Needs.{needs}
 use Rattle.address_map.proofs.PdbInternalSectionOffset.to_internal_rva.Statement.{
   statement,
 }
 use Rattle.address_map.proofs.PdbInternalSectionOffset.to_internal_rva.Tie as tie
-use Rattle.address_map.proofs.PdbInternalSectionOffset.to_internal_rva.Reads as reads
-use Rattle.address_map.proofs.PdbInternalSectionOffset.to_internal_rva.Lts as lts
-use Rattle.address_map.proofs.internal_rva_of.Reads as internal-rva-of-reads
-use Rattle.address_map.proofs.sections.get_virtual_address.Reads as get-virtual-address-reads
-use Rattle.lent.proofs.held.Reads as held-reads
 
 held-requires : tie.Need-held-requires
 held-requires c κs = search needs

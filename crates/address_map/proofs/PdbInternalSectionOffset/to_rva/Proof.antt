@@ -1,14 +1,9 @@
 -- `address_map::PdbInternalSectionOffset::to_rva` meets its contract: its path, and the kind of the answer.
 -- Assumes nothing.
-use mathlib.Core.Path.{_≡_, refl, sym, ap, _∙_, subst}
+use mathlib.Core.Path.{_∙_}
 use borrow.Author.Needs.{needs}
 use Rattle.address_map.proofs.PdbInternalSectionOffset.to_rva.Statement.{statement}
 use Rattle.address_map.proofs.PdbInternalSectionOffset.to_rva.Tie as tie
-use Rattle.address_map.proofs.PdbInternalSectionOffset.to_rva.Reads as reads
-use Rattle.address_map.proofs.PdbInternalSectionOffset.to_rva.Lts as lts
-use Rattle.address_map.proofs.paths.place_cross.Reads as place-cross-reads
-use Rattle.address_map.proofs.rva_of.Reads as rva-of-reads
-use Rattle.lent.proofs.held.Reads as held-reads
 
 held-requires : tie.Need-held-requires
 held-requires c κs = search needs

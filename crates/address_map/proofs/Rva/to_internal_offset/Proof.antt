@@ -1,14 +1,9 @@
 -- `address_map::Rva::to_internal_offset` meets its contract: its path, and the kind of the answer.
 -- Assumes nothing.
-use mathlib.Core.Path.{_≡_, refl, sym, ap, _∙_, subst}
+use mathlib.Core.Path.{_∙_}
 use borrow.Author.Needs.{needs}
 use Rattle.address_map.proofs.Rva.to_internal_offset.Statement.{statement}
 use Rattle.address_map.proofs.Rva.to_internal_offset.Tie as tie
-use Rattle.address_map.proofs.Rva.to_internal_offset.Reads as reads
-use Rattle.address_map.proofs.Rva.to_internal_offset.Lts as lts
-use Rattle.address_map.proofs.internal_offset_of.Reads as internal-offset-of-reads
-use Rattle.address_map.proofs.paths.cross_locate.Reads as cross-locate-reads
-use Rattle.lent.proofs.held.Reads as held-reads
 
 held-requires : tie.Need-held-requires
 held-requires c κs = search needs

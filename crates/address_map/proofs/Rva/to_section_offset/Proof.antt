@@ -1,14 +1,9 @@
 -- `address_map::Rva::to_section_offset` meets its contract: its path, and the kind of the answer.
 -- Assumes nothing.
-use mathlib.Core.Path.{_≡_, refl, sym, ap, _∙_, subst}
+use mathlib.Core.Path.{_∙_}
 use borrow.Author.Needs.{needs}
 use Rattle.address_map.proofs.Rva.to_section_offset.Statement.{statement}
 use Rattle.address_map.proofs.Rva.to_section_offset.Tie as tie
-use Rattle.address_map.proofs.Rva.to_section_offset.Reads as reads
-use Rattle.address_map.proofs.Rva.to_section_offset.Lts as lts
-use Rattle.address_map.proofs.paths.actual_sections.Reads as actual-sections-reads
-use Rattle.address_map.proofs.section_offset_of.Reads as section-offset-of-reads
-use Rattle.address_map.proofs.sections.get_section_offset.Reads as get-section-offset-reads
 
 actual-sections-requires : tie.Need-actual-sections-requires
 actual-sections-requires c κs = search needs

@@ -1,14 +1,9 @@
 -- `address_map::SectionOffset::to_internal_rva` meets its contract: its path, and the kind of the answer.
 -- Assumes nothing.
-use mathlib.Core.Path.{_≡_, refl, sym, ap, _∙_, subst}
+use mathlib.Core.Path.{_∙_}
 use borrow.Author.Needs.{needs}
 use Rattle.address_map.proofs.SectionOffset.to_internal_rva.Statement.{statement}
 use Rattle.address_map.proofs.SectionOffset.to_internal_rva.Tie as tie
-use Rattle.address_map.proofs.SectionOffset.to_internal_rva.Reads as reads
-use Rattle.address_map.proofs.SectionOffset.to_internal_rva.Lts as lts
-use Rattle.address_map.proofs.internal_rva_of.Reads as internal-rva-of-reads
-use Rattle.address_map.proofs.paths.actual_sections.Reads as actual-sections-reads
-use Rattle.address_map.proofs.paths.place_cross.Reads as place-cross-reads
 
 actual-sections-requires : tie.Need-actual-sections-requires
 actual-sections-requires c κs = search needs

@@ -1,14 +1,9 @@
 -- `address_map::SectionOffset::to_rva` meets its contract: its path, and the kind of the answer.
 -- Assumes nothing.
-use mathlib.Core.Path.{_≡_, refl, sym, ap, _∙_, subst}
+use mathlib.Core.Path.{_∙_}
 use borrow.Author.Needs.{needs}
 use Rattle.address_map.proofs.SectionOffset.to_rva.Statement.{statement}
 use Rattle.address_map.proofs.SectionOffset.to_rva.Tie as tie
-use Rattle.address_map.proofs.SectionOffset.to_rva.Reads as reads
-use Rattle.address_map.proofs.SectionOffset.to_rva.Lts as lts
-use Rattle.address_map.proofs.paths.actual_sections.Reads as actual-sections-reads
-use Rattle.address_map.proofs.rva_of.Reads as rva-of-reads
-use Rattle.address_map.proofs.sections.get_virtual_address.Reads as get-virtual-address-reads
 
 actual-sections-requires : tie.Need-actual-sections-requires
 actual-sections-requires c κs = search needs

@@ -1,13 +1,8 @@
 -- `address_map::paths::actual_sections` meets its contract.
 -- Assumes nothing.
-use mathlib.Core.Path.{_≡_, refl, sym, ap, _∙_, subst}
-use denote.Ref.{now}
 use borrow.Author.Needs.{needs}
 use Rattle.address_map.proofs.paths.actual_sections.Statement.{statement}
 use Rattle.address_map.proofs.paths.actual_sections.Tie as tie
-use Rattle.address_map.proofs.paths.actual_sections.Reads as reads
-use Rattle.address_map.proofs.paths.actual_sections.Lts as lts
-use Rattle.lent.proofs.held.Reads as held-reads
 
 returns : tie.Need-returns
 returns c = search needs

@@ -1,19 +1,15 @@
 -- `address_map::paths::cross_locate` meets its contract: the step after the OMAP, by what it gave.
 -- Assumes nothing.
-use mathlib.Core.Path.{_≡_, refl, sym, ap, _∙_, subst}
+use mathlib.Core.Path.{sym, ap, _∙_}
 use denote.Ref.{now}
 use Rattle.lent.specs.Paper.{number}
 use Rattle.omap.specs.Lookup.{toldLooked, lookupSpec}
-use Rattle.address_map.specs.Sections.{Offset, sectionSpec, addressSpec}
-use Rattle.address_map.specs.Paths.{crossLocate, placeCross, placeCrossLocate}
+use Rattle.address_map.specs.Sections.{sectionSpec}
+use Rattle.address_map.specs.Paths.{crossLocate}
 use Rattle.address_map.proofs.Then.{then-value, then-nothing, then-refused}
 use borrow.Author.Needs.{needs}
 use Rattle.address_map.proofs.paths.cross_locate.Statement.{statement}
 use Rattle.address_map.proofs.paths.cross_locate.Tie as tie
-use Rattle.address_map.proofs.paths.cross_locate.Reads as reads
-use Rattle.address_map.proofs.paths.cross_locate.Lts as lts
-use Rattle.address_map.proofs.sections.get_section_offset.Reads as get-section-offset-reads
-use Rattle.omap.proofs.lookup.Reads as lookup-reads
 
 lookup-requires : tie.Need-lookup-requires
 lookup-requires c κs = search needs

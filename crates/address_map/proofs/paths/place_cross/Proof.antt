@@ -1,19 +1,15 @@
 -- `address_map::paths::place_cross` meets its contract: the step after the section, by what it gave.
 -- Assumes nothing.
-use mathlib.Core.Path.{_≡_, refl, sym, ap, _∙_, subst}
+use mathlib.Core.Path.{sym, ap, _∙_}
 use denote.Ref.{now}
 use Rattle.lent.specs.Paper.{number}
 use Rattle.omap.specs.Lookup.{toldLooked, lookupSpec}
-use Rattle.address_map.specs.Sections.{Offset, sectionSpec, addressSpec}
-use Rattle.address_map.specs.Paths.{crossLocate, placeCross, placeCrossLocate}
+use Rattle.address_map.specs.Sections.{addressSpec}
+use Rattle.address_map.specs.Paths.{placeCross}
 use Rattle.address_map.proofs.Then.{then-value, then-nothing, then-refused}
 use borrow.Author.Needs.{needs}
 use Rattle.address_map.proofs.paths.place_cross.Statement.{statement}
 use Rattle.address_map.proofs.paths.place_cross.Tie as tie
-use Rattle.address_map.proofs.paths.place_cross.Reads as reads
-use Rattle.address_map.proofs.paths.place_cross.Lts as lts
-use Rattle.address_map.proofs.sections.get_virtual_address.Reads as get-virtual-address-reads
-use Rattle.omap.proofs.lookup.Reads as lookup-reads
 
 get-virtual-address-requires : tie.Need-get-virtual-address-requires
 get-virtual-address-requires c κs = search needs

@@ -1,19 +1,15 @@
 -- `address_map::paths::place_cross_locate` meets its contract: the last step, by what the others gave.
 -- Assumes nothing.
-use mathlib.Core.Path.{_≡_, refl, sym, ap, _∙_, subst}
+use mathlib.Core.Path.{sym, ap, _∙_}
 use denote.Ref.{now}
 use Rattle.lent.specs.Paper.{number}
-use Rattle.omap.specs.Lookup.{toldLooked, lookupSpec}
-use Rattle.address_map.specs.Sections.{Offset, sectionSpec, addressSpec}
-use Rattle.address_map.specs.Paths.{crossLocate, placeCross, placeCrossLocate}
+use Rattle.omap.specs.Lookup.{toldLooked}
+use Rattle.address_map.specs.Sections.{sectionSpec}
+use Rattle.address_map.specs.Paths.{placeCross, placeCrossLocate}
 use Rattle.address_map.proofs.Then.{then-value, then-nothing, then-refused}
 use borrow.Author.Needs.{needs}
 use Rattle.address_map.proofs.paths.place_cross_locate.Statement.{statement}
 use Rattle.address_map.proofs.paths.place_cross_locate.Tie as tie
-use Rattle.address_map.proofs.paths.place_cross_locate.Reads as reads
-use Rattle.address_map.proofs.paths.place_cross_locate.Lts as lts
-use Rattle.address_map.proofs.paths.place_cross.Reads as place-cross-reads
-use Rattle.address_map.proofs.sections.get_section_offset.Reads as get-section-offset-reads
 
 place-cross-requires : tie.Need-place-cross-requires
 place-cross-requires c κs = search needs

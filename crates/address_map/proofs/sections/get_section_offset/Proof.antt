@@ -1,10 +1,9 @@
 -- `address_map::sections::get_section_offset` meets its contract: the walk from the place reached gives the answer.
 -- Assumes nothing.
-use Prim.Native.Nat.{ℕ, zero, suc, _+_, _-_, _*_, _/_, _≤_, _<_, max, min}
-use mathlib.Core.Path.{_≡_, refl, sym, ap, _∙_, subst}
+use Prim.Native.Nat.{_-_, _≤_}
+use mathlib.Core.Path.{_≡_, sym, ap, _∙_}
 use native.Mathlib.Omega.{arith}
-use mathlib.Core.Option.{none, some}
-use lib.ListN.{length}
+use mathlib.Core.Option.{none}
 use denote.Ref.{now}
 use borrow.Author.Needs.{needs}
 use Rattle.lent.specs.Paper.{number, toldChecked}
@@ -14,11 +13,6 @@ use Rattle.address_map.specs.Sections.{sectionSpec, walk}
 use Rattle.address_map.proofs.Walks.{rest, walk-end, walk-later, walk-here, walk-on, section-refused, section-good}
 use Rattle.address_map.proofs.sections.get_section_offset.Statement.{statement}
 use Rattle.address_map.proofs.sections.get_section_offset.Tie as tie
-use Rattle.address_map.proofs.sections.get_section_offset.Reads as reads
-use Rattle.address_map.proofs.sections.get_section_offset.Lts as lts
-use Rattle.lent.proofs.shape.Reads as shape-reads
-use Rattle.pe.proofs.extent_at.Reads as extent-at-reads
-use Rattle.pe.proofs.virtual_address_at.Reads as virtual-address-at-reads
 
 abbrev Inv-loop : tie.InvT-loop
 Inv-loop sections address n i₀ i = (i ≤ n) × ((n ≤ 65535) × (sectionSpec sections address ≡ walk address i (rest sections i)))

@@ -1,10 +1,9 @@
 -- `address_map::sections::get_virtual_address` meets its contract: each answer by the tests that led there.
 -- Assumes nothing.
-use Prim.Native.Nat.{ℕ, zero, suc, _+_, _-_, _*_, _/_, _≤_, _<_, max, min}
-use mathlib.Core.Path.{_≡_, refl, sym, ap, _∙_, subst}
+use Prim.Native.Nat.{_-_}
+use mathlib.Core.Path.{_≡_, sym, ap, _∙_}
 use native.Mathlib.Omega.{arith}
-use mathlib.Core.Option.{none, some}
-use lib.ListN.{length}
+use mathlib.Core.Option.{none}
 use denote.Ref.{now}
 use Rattle.lent.specs.Paper.{number, toldChecked}
 use Rattle.lent.specs.Table.{sectionShape}
@@ -12,10 +11,6 @@ use Rattle.address_map.proofs.Walks.{address-refused, address-zero, add
 use borrow.Author.Needs.{needs}
 use Rattle.address_map.proofs.sections.get_virtual_address.Statement.{statement}
 use Rattle.address_map.proofs.sections.get_virtual_address.Tie as tie
-use Rattle.address_map.proofs.sections.get_virtual_address.Reads as reads
-use Rattle.address_map.proofs.sections.get_virtual_address.Lts as lts
-use Rattle.lent.proofs.shape.Reads as shape-reads
-use Rattle.pe.proofs.virtual_address_at.Reads as virtual-address-at-reads
 
 shape-requires : tie.Need-shape-requires
 shape-requires c κs = search needs

@@ -1,16 +1,12 @@
 -- `gillacorn::addresses::gillacorn_internal_rva_to_section_offset` meets its contract: the answer of the library, as the face shows it.
 -- Assumes nothing.
-use mathlib.Core.Path.{_≡_, refl, sym, ap, _∙_}
+use mathlib.Core.Path.{ap, _∙_}
 use Rattle.gillacorn.specs.Addresses.{offsetAnswer}
 use borrow.Author.Needs.{needs}
 use Rattle.gillacorn.proofs.addresses.gillacorn_internal_rva_to_section_offset.Statement.{
   statement,
 }
 use Rattle.gillacorn.proofs.addresses.gillacorn_internal_rva_to_section_offset.Tie as tie
-use Rattle.gillacorn.proofs.addresses.gillacorn_internal_rva_to_section_offset.Reads as reads
-use Rattle.gillacorn.proofs.addresses.gillacorn_internal_rva_to_section_offset.Lts as lts
-use Rattle.address_map.proofs.PdbInternalRva.to_section_offset.Reads as to-section-offset-reads
-use Rattle.gillacorn.proofs.addresses.section_offset_answer.Reads as section-offset-answer-reads
 
 to-section-offset-requires : tie.Need-to-section-offset-requires
 to-section-offset-requires c κs = search needs

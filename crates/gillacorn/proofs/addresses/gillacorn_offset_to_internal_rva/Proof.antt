@@ -1,16 +1,12 @@
 -- `gillacorn::addresses::gillacorn_offset_to_internal_rva` meets its contract: the answer of the library, as the face shows it.
 -- Assumes nothing.
-use mathlib.Core.Path.{_≡_, refl, sym, ap, _∙_}
+use mathlib.Core.Path.{ap, _∙_}
 use Rattle.gillacorn.specs.Code.{valueOf}
 use borrow.Author.Needs.{needs}
 use Rattle.gillacorn.proofs.addresses.gillacorn_offset_to_internal_rva.Statement.{
   statement,
 }
 use Rattle.gillacorn.proofs.addresses.gillacorn_offset_to_internal_rva.Tie as tie
-use Rattle.gillacorn.proofs.addresses.gillacorn_offset_to_internal_rva.Reads as reads
-use Rattle.gillacorn.proofs.addresses.gillacorn_offset_to_internal_rva.Lts as lts
-use Rattle.address_map.proofs.SectionOffset.to_internal_rva.Reads as to-internal-rva-reads
-use Rattle.gillacorn.proofs.addresses.internal_rva_value.Reads as internal-rva-value-reads
 
 to-internal-rva-requires : tie.Need-to-internal-rva-requires
 to-internal-rva-requires c κs = search needs

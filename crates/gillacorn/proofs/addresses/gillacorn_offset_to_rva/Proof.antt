@@ -1,14 +1,10 @@
 -- `gillacorn::addresses::gillacorn_offset_to_rva` meets its contract: the answer of the library, as the face shows it.
 -- Assumes nothing.
-use mathlib.Core.Path.{_≡_, refl, sym, ap, _∙_}
+use mathlib.Core.Path.{ap, _∙_}
 use Rattle.gillacorn.specs.Code.{valueOf}
 use borrow.Author.Needs.{needs}
 use Rattle.gillacorn.proofs.addresses.gillacorn_offset_to_rva.Statement.{statement}
 use Rattle.gillacorn.proofs.addresses.gillacorn_offset_to_rva.Tie as tie
-use Rattle.gillacorn.proofs.addresses.gillacorn_offset_to_rva.Reads as reads
-use Rattle.gillacorn.proofs.addresses.gillacorn_offset_to_rva.Lts as lts
-use Rattle.address_map.proofs.SectionOffset.to_rva.Reads as to-rva-reads
-use Rattle.gillacorn.proofs.addresses.rva_value.Reads as rva-value-reads
 
 to-rva-requires : tie.Need-to-rva-requires
 to-rva-requires c κs = search needs

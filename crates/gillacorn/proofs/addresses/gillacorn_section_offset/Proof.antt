@@ -1,14 +1,10 @@
 -- `gillacorn::addresses::gillacorn_section_offset` meets its contract: the answer of the library, as the face shows it.
 -- Assumes nothing.
-use mathlib.Core.Path.{_≡_, refl, sym, ap, _∙_}
+use mathlib.Core.Path.{ap, _∙_}
 use Rattle.gillacorn.specs.Addresses.{offsetAnswer}
 use borrow.Author.Needs.{needs}
 use Rattle.gillacorn.proofs.addresses.gillacorn_section_offset.Statement.{statement}
 use Rattle.gillacorn.proofs.addresses.gillacorn_section_offset.Tie as tie
-use Rattle.gillacorn.proofs.addresses.gillacorn_section_offset.Reads as reads
-use Rattle.gillacorn.proofs.addresses.gillacorn_section_offset.Lts as lts
-use Rattle.address_map.proofs.sections.get_section_offset.Reads as get-section-offset-reads
-use Rattle.gillacorn.proofs.addresses.located_answer.Reads as located-answer-reads
 
 get-section-offset-requires : tie.Need-get-section-offset-requires
 get-section-offset-requires c κs = search needs

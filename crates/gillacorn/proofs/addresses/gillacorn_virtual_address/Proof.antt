@@ -1,14 +1,10 @@
 -- `gillacorn::addresses::gillacorn_virtual_address` meets its contract: the answer of the library, as the face shows it.
 -- Assumes nothing.
-use mathlib.Core.Path.{_≡_, refl, sym, ap, _∙_}
+use mathlib.Core.Path.{ap, _∙_}
 use Rattle.gillacorn.specs.Code.{valueOf}
 use borrow.Author.Needs.{needs}
 use Rattle.gillacorn.proofs.addresses.gillacorn_virtual_address.Statement.{statement}
 use Rattle.gillacorn.proofs.addresses.gillacorn_virtual_address.Tie as tie
-use Rattle.gillacorn.proofs.addresses.gillacorn_virtual_address.Reads as reads
-use Rattle.gillacorn.proofs.addresses.gillacorn_virtual_address.Lts as lts
-use Rattle.address_map.proofs.sections.get_virtual_address.Reads as get-virtual-address-reads
-use Rattle.gillacorn.proofs.code.value_of.Reads as value-of-reads
 
 get-virtual-address-requires : tie.Need-get-virtual-address-requires
 get-virtual-address-requires c κs = search needs

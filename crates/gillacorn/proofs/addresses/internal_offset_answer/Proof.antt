@@ -1,15 +1,12 @@
 -- `gillacorn::addresses::internal_offset_answer` meets its contract: case by case.
 -- Assumes nothing.
-use mathlib.Core.Path.{_≡_, refl, sym, ap, _∙_}
+use mathlib.Core.Path.{sym, ap}
 use Rattle.address_map.specs.declared.ToInternalOffset.{ToInternalOffset}
 use Rattle.address_map.specs.Answers.{toldInternalOffset}
 use Rattle.gillacorn.specs.Addresses.{offsetAnswer}
 use borrow.Author.Needs.{needs}
 use Rattle.gillacorn.proofs.addresses.internal_offset_answer.Statement.{statement}
 use Rattle.gillacorn.proofs.addresses.internal_offset_answer.Tie as tie
-use Rattle.gillacorn.proofs.addresses.internal_offset_answer.Reads as reads
-use Rattle.gillacorn.proofs.addresses.internal_offset_answer.Lts as lts
-use Rattle.gillacorn.proofs.code.number_of.Reads as number-of-reads
 
 enum-known-answer : tie.Need-enum-known-answer
 enum-known-answer c = search needs

@@ -1,15 +1,12 @@
 -- `gillacorn::addresses::internal_rva_value` meets its contract: case by case.
 -- Assumes nothing.
-use mathlib.Core.Path.{_≡_, refl, sym, ap, _∙_}
+use mathlib.Core.Path.{sym, ap}
 use Rattle.address_map.specs.declared.ToInternalRva.{ToInternalRva}
 use Rattle.address_map.specs.Answers.{toldInternalRva}
 use Rattle.gillacorn.specs.Code.{valueOf}
 use borrow.Author.Needs.{needs}
 use Rattle.gillacorn.proofs.addresses.internal_rva_value.Statement.{statement}
 use Rattle.gillacorn.proofs.addresses.internal_rva_value.Tie as tie
-use Rattle.gillacorn.proofs.addresses.internal_rva_value.Reads as reads
-use Rattle.gillacorn.proofs.addresses.internal_rva_value.Lts as lts
-use Rattle.gillacorn.proofs.code.number_of.Reads as number-of-reads
 
 enum-known-answer : tie.Need-enum-known-answer
 enum-known-answer c = search needs

@@ -1,14 +1,10 @@
 -- `gillacorn::clashes::gillacorn_way_back` meets its contract: the answer of the library, as the face shows it.
 -- Assumes nothing.
-use mathlib.Core.Path.{_≡_, refl, sym, ap, _∙_}
+use mathlib.Core.Path.{ap, _∙_}
 use Rattle.gillacorn.specs.Clashes.{sourcesShown}
 use borrow.Author.Needs.{needs}
 use Rattle.gillacorn.proofs.clashes.gillacorn_way_back.Statement.{statement}
 use Rattle.gillacorn.proofs.clashes.gillacorn_way_back.Tie as tie
-use Rattle.gillacorn.proofs.clashes.gillacorn_way_back.Reads as reads
-use Rattle.gillacorn.proofs.clashes.gillacorn_way_back.Lts as lts
-use Rattle.clash.proofs.way_back.Reads as way-back-reads
-use Rattle.gillacorn.proofs.clashes.sources_of.Reads as sources-of-reads
 
 way-back-requires : tie.Need-way-back-requires
 way-back-requires c κs = search needs

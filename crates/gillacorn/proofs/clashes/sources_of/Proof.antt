@@ -1,15 +1,12 @@
 -- `gillacorn::clashes::sources_of` meets its contract: case by case.
 -- Assumes nothing.
-use mathlib.Core.Path.{_≡_, refl, sym, ap, _∙_}
+use mathlib.Core.Path.{sym, ap}
 use Rattle.clash.specs.declared.Back.{Back}
 use Rattle.clash.specs.Clash.{toldBack}
 use Rattle.gillacorn.specs.Clashes.{sourcesShown}
 use borrow.Author.Needs.{needs}
 use Rattle.gillacorn.proofs.clashes.sources_of.Statement.{statement}
 use Rattle.gillacorn.proofs.clashes.sources_of.Tie as tie
-use Rattle.gillacorn.proofs.clashes.sources_of.Reads as reads
-use Rattle.gillacorn.proofs.clashes.sources_of.Lts as lts
-use Rattle.gillacorn.proofs.code.number_of.Reads as number-of-reads
 
 enum-told : tie.Need-enum-told
 enum-told c = search needs

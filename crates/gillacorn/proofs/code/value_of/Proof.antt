@@ -1,15 +1,12 @@
 -- `gillacorn::code::value_of` meets its contract: case by case.
 -- Assumes nothing.
-use mathlib.Core.Path.{_≡_, refl, sym, ap, _∙_}
+use mathlib.Core.Path.{sym, ap}
 use Rattle.omap.specs.declared.Looked.{Looked}
 use Rattle.omap.specs.Lookup.{toldLooked}
 use Rattle.gillacorn.specs.Code.{valueOf}
 use borrow.Author.Needs.{needs}
 use Rattle.gillacorn.proofs.code.value_of.Statement.{statement}
 use Rattle.gillacorn.proofs.code.value_of.Tie as tie
-use Rattle.gillacorn.proofs.code.value_of.Reads as reads
-use Rattle.gillacorn.proofs.code.value_of.Lts as lts
-use Rattle.gillacorn.proofs.code.number_of.Reads as number-of-reads
 
 enum-known-looked : tie.Need-enum-known-looked
 enum-known-looked c = search needs

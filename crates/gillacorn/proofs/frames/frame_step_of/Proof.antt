@@ -1,17 +1,12 @@
 -- `gillacorn::frames::frame_step_of` meets its contract: case by case.
 -- Assumes nothing.
-use mathlib.Core.Path.{_≡_, refl, sym, ap, _∙_}
+use mathlib.Core.Path.{sym, ap}
 use Rattle.framedata.specs.declared.cursor.FrameStep.{FrameStep}
 use Rattle.framedata.specs.Step.{toldStep}
 use Rattle.gillacorn.specs.Frames.{frameStepOf}
 use borrow.Author.Needs.{needs}
 use Rattle.gillacorn.proofs.frames.frame_step_of.Statement.{statement}
 use Rattle.gillacorn.proofs.frames.frame_step_of.Tie as tie
-use Rattle.gillacorn.proofs.frames.frame_step_of.Reads as reads
-use Rattle.gillacorn.proofs.frames.frame_step_of.Lts as lts
-use Rattle.gillacorn.proofs.code.number_of.Reads as number-of-reads
-use Rattle.gillacorn.proofs.frames.no_frame.Reads as no-frame-reads
-use Rattle.gillacorn.proofs.frames.shown_of.Reads as shown-of-reads
 
 enum-known-step : tie.Need-enum-known-step
 enum-known-step c = search needs

@@ -1,17 +1,12 @@
 -- `gillacorn::frames::framed_of` meets its contract: case by case.
 -- Assumes nothing.
-use mathlib.Core.Path.{_≡_, refl, sym, ap, _∙_}
+use mathlib.Core.Path.{sym, ap}
 use Rattle.framedata.specs.declared.frame.Framed.{Framed}
 use Rattle.framedata.specs.Frame.{toldFramed}
 use Rattle.gillacorn.specs.Frames.{frameAnswer}
 use borrow.Author.Needs.{needs}
 use Rattle.gillacorn.proofs.frames.framed_of.Statement.{statement}
 use Rattle.gillacorn.proofs.frames.framed_of.Tie as tie
-use Rattle.gillacorn.proofs.frames.framed_of.Reads as reads
-use Rattle.gillacorn.proofs.frames.framed_of.Lts as lts
-use Rattle.gillacorn.proofs.code.number_of.Reads as number-of-reads
-use Rattle.gillacorn.proofs.frames.no_frame.Reads as no-frame-reads
-use Rattle.gillacorn.proofs.frames.shown_of.Reads as shown-of-reads
 
 enum-known-framed : tie.Need-enum-known-framed
 enum-known-framed c = search needs

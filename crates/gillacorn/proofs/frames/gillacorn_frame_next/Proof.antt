@@ -1,14 +1,10 @@
 -- `gillacorn::frames::gillacorn_frame_next` meets its contract: the answer of the library, as the face shows it.
 -- Assumes nothing.
-use mathlib.Core.Path.{_≡_, refl, sym, ap, _∙_}
+use mathlib.Core.Path.{ap, _∙_}
 use Rattle.gillacorn.specs.Frames.{frameStepOf}
 use borrow.Author.Needs.{needs}
 use Rattle.gillacorn.proofs.frames.gillacorn_frame_next.Statement.{statement}
 use Rattle.gillacorn.proofs.frames.gillacorn_frame_next.Tie as tie
-use Rattle.gillacorn.proofs.frames.gillacorn_frame_next.Reads as reads
-use Rattle.gillacorn.proofs.frames.gillacorn_frame_next.Lts as lts
-use Rattle.framedata.proofs.cursor.FrameCursor.step.Reads as step-reads
-use Rattle.gillacorn.proofs.frames.frame_step_of.Reads as frame-step-of-reads
 
 step-requires : tie.Need-step-requires
 step-requires c κs = search needs

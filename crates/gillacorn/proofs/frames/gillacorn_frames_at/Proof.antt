@@ -1,14 +1,10 @@
 -- `gillacorn::frames::gillacorn_frames_at` meets its contract: the answer of the library, as the face shows it.
 -- Assumes nothing.
-use mathlib.Core.Path.{_≡_, refl, sym, ap, _∙_}
+use mathlib.Core.Path.{ap, _∙_}
 use Rattle.gillacorn.specs.Frames.{startingOf}
 use borrow.Author.Needs.{needs}
 use Rattle.gillacorn.proofs.frames.gillacorn_frames_at.Statement.{statement}
 use Rattle.gillacorn.proofs.frames.gillacorn_frames_at.Tie as tie
-use Rattle.gillacorn.proofs.frames.gillacorn_frames_at.Reads as reads
-use Rattle.gillacorn.proofs.frames.gillacorn_frames_at.Lts as lts
-use Rattle.framedata.proofs.start_at.Reads as start-at-reads
-use Rattle.gillacorn.proofs.frames.starting_of.Reads as starting-of-reads
 
 start-at-requires : tie.Need-start-at-requires
 start-at-requires c κs = search needs

@@ -1,14 +1,10 @@
 -- `gillacorn::frames::gillacorn_frames_empty` meets its contract: the answer of the library, as the face shows it.
 -- Assumes nothing.
-use mathlib.Core.Path.{_≡_, refl, sym, ap, _∙_}
+use mathlib.Core.Path.{ap, _∙_}
 use Rattle.gillacorn.specs.Frames.{yesOf}
 use borrow.Author.Needs.{needs}
 use Rattle.gillacorn.proofs.frames.gillacorn_frames_empty.Statement.{statement}
 use Rattle.gillacorn.proofs.frames.gillacorn_frames_empty.Tie as tie
-use Rattle.gillacorn.proofs.frames.gillacorn_frames_empty.Reads as reads
-use Rattle.gillacorn.proofs.frames.gillacorn_frames_empty.Lts as lts
-use Rattle.framedata.proofs.is_empty.Reads as is-empty-reads
-use Rattle.gillacorn.proofs.frames.yes_of.Reads as yes-of-reads
 
 is-empty-requires : tie.Need-is-empty-requires
 is-empty-requires c κs = search needs

@@ -1,14 +1,10 @@
 -- `gillacorn::frames::gillacorn_new_frame` meets its contract: the answer of the library, as the face shows it.
 -- Assumes nothing.
-use mathlib.Core.Path.{_≡_, refl, sym, ap, _∙_}
+use mathlib.Core.Path.{ap, _∙_}
 use Rattle.gillacorn.specs.Frames.{frameAnswer}
 use borrow.Author.Needs.{needs}
 use Rattle.gillacorn.proofs.frames.gillacorn_new_frame.Statement.{statement}
 use Rattle.gillacorn.proofs.frames.gillacorn_new_frame.Tie as tie
-use Rattle.gillacorn.proofs.frames.gillacorn_new_frame.Reads as reads
-use Rattle.gillacorn.proofs.frames.gillacorn_new_frame.Lts as lts
-use Rattle.framedata.proofs.new_frame_at.Reads as new-frame-at-reads
-use Rattle.gillacorn.proofs.frames.framed_of.Reads as framed-of-reads
 
 new-frame-at-requires : tie.Need-new-frame-at-requires
 new-frame-at-requires c κs = search needs

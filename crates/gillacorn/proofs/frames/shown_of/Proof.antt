@@ -1,16 +1,8 @@
 -- `gillacorn::frames::shown_of` meets its contract: field by field.
 -- Assumes nothing.
-use mathlib.Core.Path.{_≡_, refl, sym, ap, _∙_}
 use borrow.Author.Needs.{needs}
 use Rattle.gillacorn.proofs.frames.shown_of.Statement.{statement}
 use Rattle.gillacorn.proofs.frames.shown_of.Tie as tie
-use Rattle.gillacorn.proofs.frames.shown_of.Reads as reads
-use Rattle.gillacorn.proofs.frames.shown_of.Lts as lts
-use Rattle.gillacorn.proofs.frames.has_program.Reads as has-program-reads
-use Rattle.gillacorn.proofs.frames.has_stack.Reads as has-stack-reads
-use Rattle.gillacorn.proofs.frames.program_of.Reads as program-of-reads
-use Rattle.gillacorn.proofs.frames.stack_of.Reads as stack-of-reads
-use Rattle.gillacorn.proofs.frames.type_of.Reads as type-of-reads
 
 type-of-requires : tie.Need-type-of-requires
 type-of-requires c κs = search needs

@@ -1,15 +1,12 @@
 -- `gillacorn::frames::starting_of` meets its contract: case by case.
 -- Assumes nothing.
-use mathlib.Core.Path.{_≡_, refl, sym, ap, _∙_}
+use mathlib.Core.Path.{sym, ap}
 use Rattle.framedata.specs.declared.start.FrameStarted.{FrameStarted}
 use Rattle.framedata.specs.Start.{toldStarted}
 use Rattle.gillacorn.specs.Frames.{startingOf}
 use borrow.Author.Needs.{needs}
 use Rattle.gillacorn.proofs.frames.starting_of.Statement.{statement}
 use Rattle.gillacorn.proofs.frames.starting_of.Tie as tie
-use Rattle.gillacorn.proofs.frames.starting_of.Reads as reads
-use Rattle.gillacorn.proofs.frames.starting_of.Lts as lts
-use Rattle.gillacorn.proofs.code.number_of.Reads as number-of-reads
 
 enum-known-started : tie.Need-enum-known-started
 enum-known-started c = search needs

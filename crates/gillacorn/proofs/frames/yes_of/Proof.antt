@@ -1,15 +1,12 @@
 -- `gillacorn::frames::yes_of` meets its contract: case by case.
 -- Assumes nothing.
-use mathlib.Core.Path.{_≡_, refl, sym, ap, _∙_}
+use mathlib.Core.Path.{sym, ap}
 use Rattle.framedata.specs.declared.tables.Emptiness.{Emptiness}
 use Rattle.framedata.specs.Tables.{toldEmptiness}
 use Rattle.gillacorn.specs.Frames.{yesOf}
 use borrow.Author.Needs.{needs}
 use Rattle.gillacorn.proofs.frames.yes_of.Statement.{statement}
 use Rattle.gillacorn.proofs.frames.yes_of.Tie as tie
-use Rattle.gillacorn.proofs.frames.yes_of.Reads as reads
-use Rattle.gillacorn.proofs.frames.yes_of.Lts as lts
-use Rattle.gillacorn.proofs.code.number_of.Reads as number-of-reads
 
 enum-told : tie.Need-enum-told
 enum-told c = search needs

@@ -1,14 +1,12 @@
 -- `gillacorn::headers::aligned` meets its contract: case by case.
 -- Assumes nothing.
-use mathlib.Core.Path.{_≡_, refl, sym, ap, _∙_}
+use mathlib.Core.Path.{sym, ap}
 use Rattle.pe.specs.declared.characteristics.Alignment.{Alignment}
 use Rattle.pe.specs.Flags.{toldAlignment}
 use Rattle.gillacorn.specs.Code.{valueOf}
 use borrow.Author.Needs.{needs}
 use Rattle.gillacorn.proofs.headers.aligned.Statement.{statement}
 use Rattle.gillacorn.proofs.headers.aligned.Tie as tie
-use Rattle.gillacorn.proofs.headers.aligned.Reads as reads
-use Rattle.gillacorn.proofs.headers.aligned.Lts as lts
 
 enum-known-alignment : tie.Need-enum-known-alignment
 enum-known-alignment c = search needs

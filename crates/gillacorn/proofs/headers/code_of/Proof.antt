@@ -1,15 +1,12 @@
 -- `gillacorn::headers::code_of` meets its contract: case by case.
 -- Assumes nothing.
-use mathlib.Core.Path.{_≡_, refl, sym, ap, _∙_}
+use mathlib.Core.Path.{sym, ap, _∙_}
 use Rattle.pe.specs.declared.header.Given.{Given}
 use Rattle.pe.specs.Header.{toldGiven}
 use Rattle.gillacorn.specs.Code.{codeOf}
 use borrow.Author.Needs.{needs}
 use Rattle.gillacorn.proofs.headers.code_of.Statement.{statement}
 use Rattle.gillacorn.proofs.headers.code_of.Tie as tie
-use Rattle.gillacorn.proofs.headers.code_of.Reads as reads
-use Rattle.gillacorn.proofs.headers.code_of.Lts as lts
-use Rattle.gillacorn.proofs.code.number_of.Reads as number-of-reads
 
 enum-told : tie.Need-enum-told
 enum-told c = search needs

@@ -1,14 +1,10 @@
 -- `gillacorn::headers::gillacorn_alignment` meets its contract: the answer of the library, as the face shows it.
 -- Assumes nothing.
-use mathlib.Core.Path.{_≡_, refl, sym, ap, _∙_}
+use mathlib.Core.Path.{ap, _∙_}
 use Rattle.gillacorn.specs.Code.{valueOf}
 use borrow.Author.Needs.{needs}
 use Rattle.gillacorn.proofs.headers.gillacorn_alignment.Statement.{statement}
 use Rattle.gillacorn.proofs.headers.gillacorn_alignment.Tie as tie
-use Rattle.gillacorn.proofs.headers.gillacorn_alignment.Reads as reads
-use Rattle.gillacorn.proofs.headers.gillacorn_alignment.Lts as lts
-use Rattle.gillacorn.proofs.headers.aligned.Reads as aligned-reads
-use Rattle.pe.proofs.characteristics.SectionCharacteristics.alignment.Reads as alignment-reads
 
 alignment-requires : tie.Need-alignment-requires
 alignment-requires c κs = search needs

@@ -1,31 +1,8 @@
 -- `gillacorn::headers::gillacorn_characteristics` meets its contract: each flag by its method.
 -- Assumes nothing.
-use mathlib.Core.Path.{_≡_, refl, sym, ap, _∙_}
 use borrow.Author.Needs.{needs}
 use Rattle.gillacorn.proofs.headers.gillacorn_characteristics.Statement.{statement}
 use Rattle.gillacorn.proofs.headers.gillacorn_characteristics.Tie as tie
-use Rattle.gillacorn.proofs.headers.gillacorn_characteristics.Reads as reads
-use Rattle.gillacorn.proofs.headers.gillacorn_characteristics.Lts as lts
-use Rattle.pe.proofs.characteristics.SectionCharacteristics.comdat.Reads as comdat-reads
-use Rattle.pe.proofs.characteristics.SectionCharacteristics.defer_speculative_exceptions.Reads as defer-speculative-exceptions-reads
-use Rattle.pe.proofs.characteristics.SectionCharacteristics.discardable.Reads as discardable-reads
-use Rattle.pe.proofs.characteristics.SectionCharacteristics.executable.Reads as executable-reads
-use Rattle.pe.proofs.characteristics.SectionCharacteristics.execute.Reads as execute-reads
-use Rattle.pe.proofs.characteristics.SectionCharacteristics.global_pointer_relative.Reads as global-pointer-relative-reads
-use Rattle.pe.proofs.characteristics.SectionCharacteristics.info.Reads as info-reads
-use Rattle.pe.proofs.characteristics.SectionCharacteristics.initialized_data.Reads as initialized-data-reads
-use Rattle.pe.proofs.characteristics.SectionCharacteristics.lnk_nreloc_ovfl.Reads as lnk-nreloc-ovfl-reads
-use Rattle.pe.proofs.characteristics.SectionCharacteristics.locked.Reads as locked-reads
-use Rattle.pe.proofs.characteristics.SectionCharacteristics.not_cached.Reads as not-cached-reads
-use Rattle.pe.proofs.characteristics.SectionCharacteristics.not_paged.Reads as not-paged-reads
-use Rattle.pe.proofs.characteristics.SectionCharacteristics.other.Reads as other-reads
-use Rattle.pe.proofs.characteristics.SectionCharacteristics.preload.Reads as preload-reads
-use Rattle.pe.proofs.characteristics.SectionCharacteristics.purgeable.Reads as purgeable-reads
-use Rattle.pe.proofs.characteristics.SectionCharacteristics.read.Reads as read-reads
-use Rattle.pe.proofs.characteristics.SectionCharacteristics.remove.Reads as remove-reads
-use Rattle.pe.proofs.characteristics.SectionCharacteristics.shared.Reads as shared-reads
-use Rattle.pe.proofs.characteristics.SectionCharacteristics.uninitialized_data.Reads as uninitialized-data-reads
-use Rattle.pe.proofs.characteristics.SectionCharacteristics.write.Reads as write-reads
 
 executable-requires : tie.Need-executable-requires
 executable-requires c κs = search needs

@@ -1,16 +1,12 @@
 -- `gillacorn::headers::gillacorn_header` meets its contract: the header of the library beside its code.
 -- Assumes nothing.
-use mathlib.Core.Path.{_≡_, refl, sym, ap, _∙_}
+use mathlib.Core.Path.{_≡_, ap, _∙_}
 use denote.Ref.{now}
 use Rattle.pe.specs.Header.{headerSpec}
 use Rattle.gillacorn.specs.Code.{codeOf}
 use borrow.Author.Needs.{needs}
 use Rattle.gillacorn.proofs.headers.gillacorn_header.Statement.{statement}
 use Rattle.gillacorn.proofs.headers.gillacorn_header.Tie as tie
-use Rattle.gillacorn.proofs.headers.gillacorn_header.Reads as reads
-use Rattle.gillacorn.proofs.headers.gillacorn_header.Lts as lts
-use Rattle.gillacorn.proofs.headers.code_of.Reads as code-of-reads
-use Rattle.pe.proofs.header_at.Reads as header-at-reads
 
 header-at-requires : tie.Need-header-at-requires
 header-at-requires c κs = search needs

@@ -1,14 +1,10 @@
 -- `gillacorn::tables::gillacorn_cursor_start` meets its contract: the answer of the library, as the face shows it.
 -- Assumes nothing.
-use mathlib.Core.Path.{_≡_, refl, sym, ap, _∙_}
+use mathlib.Core.Path.{ap, _∙_}
 use Rattle.gillacorn.specs.Tables.{startedOf}
 use borrow.Author.Needs.{needs}
 use Rattle.gillacorn.proofs.tables.gillacorn_cursor_start.Statement.{statement}
 use Rattle.gillacorn.proofs.tables.gillacorn_cursor_start.Tie as tie
-use Rattle.gillacorn.proofs.tables.gillacorn_cursor_start.Reads as reads
-use Rattle.gillacorn.proofs.tables.gillacorn_cursor_start.Lts as lts
-use Rattle.gillacorn.proofs.tables.started_of.Reads as started-of-reads
-use Rattle.omap.proofs.cursor.Cursor.start.Reads as start-reads
 
 start-requires : tie.Need-start-requires
 start-requires c κs = search needs

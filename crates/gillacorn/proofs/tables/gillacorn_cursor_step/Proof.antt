@@ -1,14 +1,10 @@
 -- `gillacorn::tables::gillacorn_cursor_step` meets its contract: the answer of the library, as the face shows it.
 -- Assumes nothing.
-use mathlib.Core.Path.{_≡_, refl, sym, ap, _∙_}
+use mathlib.Core.Path.{ap, _∙_}
 use Rattle.gillacorn.specs.Tables.{steppingOf}
 use borrow.Author.Needs.{needs}
 use Rattle.gillacorn.proofs.tables.gillacorn_cursor_step.Statement.{statement}
 use Rattle.gillacorn.proofs.tables.gillacorn_cursor_step.Tie as tie
-use Rattle.gillacorn.proofs.tables.gillacorn_cursor_step.Reads as reads
-use Rattle.gillacorn.proofs.tables.gillacorn_cursor_step.Lts as lts
-use Rattle.gillacorn.proofs.tables.stepping_of.Reads as stepping-of-reads
-use Rattle.omap.proofs.cursor.Cursor.step.Reads as step-reads
 
 step-requires : tie.Need-step-requires
 step-requires c κs = search needs

@@ -1,14 +1,10 @@
 -- `gillacorn::tables::gillacorn_lookup` meets its contract: the answer of the library, as the face shows it.
 -- Assumes nothing.
-use mathlib.Core.Path.{_≡_, refl, sym, ap, _∙_}
+use mathlib.Core.Path.{ap, _∙_}
 use Rattle.gillacorn.specs.Code.{valueOf}
 use borrow.Author.Needs.{needs}
 use Rattle.gillacorn.proofs.tables.gillacorn_lookup.Statement.{statement}
 use Rattle.gillacorn.proofs.tables.gillacorn_lookup.Tie as tie
-use Rattle.gillacorn.proofs.tables.gillacorn_lookup.Reads as reads
-use Rattle.gillacorn.proofs.tables.gillacorn_lookup.Lts as lts
-use Rattle.gillacorn.proofs.code.value_of.Reads as value-of-reads
-use Rattle.omap.proofs.lookup.Reads as lookup-reads
 
 lookup-requires : tie.Need-lookup-requires
 lookup-requires c κs = search needs

@@ -1,14 +1,10 @@
 -- `gillacorn::tables::gillacorn_lookup_range` meets its contract: the answer of the library, as the face shows it.
 -- Assumes nothing.
-use mathlib.Core.Path.{_≡_, refl, sym, ap, _∙_}
+use mathlib.Core.Path.{ap, _∙_}
 use Rattle.gillacorn.specs.Tables.{piecesOf}
 use borrow.Author.Needs.{needs}
 use Rattle.gillacorn.proofs.tables.gillacorn_lookup_range.Statement.{statement}
 use Rattle.gillacorn.proofs.tables.gillacorn_lookup_range.Tie as tie
-use Rattle.gillacorn.proofs.tables.gillacorn_lookup_range.Reads as reads
-use Rattle.gillacorn.proofs.tables.gillacorn_lookup_range.Lts as lts
-use Rattle.gillacorn.proofs.tables.pieces_of.Reads as pieces-of-reads
-use Rattle.omap.proofs.window.lookup_range.Reads as lookup-range-reads
 
 lookup-range-requires : tie.Need-lookup-range-requires
 lookup-range-requires c κs = search needs

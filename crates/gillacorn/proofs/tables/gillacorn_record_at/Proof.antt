@@ -1,14 +1,10 @@
 -- `gillacorn::tables::gillacorn_record_at` meets its contract: the answer of the library, as the face shows it.
 -- Assumes nothing.
-use mathlib.Core.Path.{_≡_, refl, sym, ap, _∙_}
+use mathlib.Core.Path.{ap, _∙_}
 use Rattle.gillacorn.specs.Tables.{recordOf}
 use borrow.Author.Needs.{needs}
 use Rattle.gillacorn.proofs.tables.gillacorn_record_at.Statement.{statement}
 use Rattle.gillacorn.proofs.tables.gillacorn_record_at.Tie as tie
-use Rattle.gillacorn.proofs.tables.gillacorn_record_at.Reads as reads
-use Rattle.gillacorn.proofs.tables.gillacorn_record_at.Lts as lts
-use Rattle.gillacorn.proofs.tables.record_of.Reads as record-of-reads
-use Rattle.omap.proofs.record_at.Reads as record-at-reads
 
 record-at-requires : tie.Need-record-at-requires
 record-at-requires c κs = search needs

@@ -1,15 +1,12 @@
 -- `gillacorn::tables::pieces_of` meets its contract: case by case.
 -- Assumes nothing.
-use mathlib.Core.Path.{_≡_, refl, sym, ap, _∙_}
+use mathlib.Core.Path.{sym, ap}
 use Rattle.omap.specs.declared.window.Windowed.{Windowed}
 use Rattle.omap.specs.Output.{toldWindowed}
 use Rattle.gillacorn.specs.Tables.{piecesOf}
 use borrow.Author.Needs.{needs}
 use Rattle.gillacorn.proofs.tables.pieces_of.Statement.{statement}
 use Rattle.gillacorn.proofs.tables.pieces_of.Tie as tie
-use Rattle.gillacorn.proofs.tables.pieces_of.Reads as reads
-use Rattle.gillacorn.proofs.tables.pieces_of.Lts as lts
-use Rattle.gillacorn.proofs.code.number_of.Reads as number-of-reads
 
 enum-known-windowed : tie.Need-enum-known-windowed
 enum-known-windowed c = search needs

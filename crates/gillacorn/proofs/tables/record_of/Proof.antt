@@ -1,15 +1,12 @@
 -- `gillacorn::tables::record_of` meets its contract: case by case.
 -- Assumes nothing.
-use mathlib.Core.Path.{_≡_, refl, sym, ap, _∙_}
+use mathlib.Core.Path.{sym, ap}
 use Rattle.omap.specs.declared.Recorded.{Recorded}
 use Rattle.omap.specs.Lookup.{toldRecorded}
 use Rattle.gillacorn.specs.Tables.{recordOf}
 use borrow.Author.Needs.{needs}
 use Rattle.gillacorn.proofs.tables.record_of.Statement.{statement}
 use Rattle.gillacorn.proofs.tables.record_of.Tie as tie
-use Rattle.gillacorn.proofs.tables.record_of.Reads as reads
-use Rattle.gillacorn.proofs.tables.record_of.Lts as lts
-use Rattle.gillacorn.proofs.code.number_of.Reads as number-of-reads
 
 enum-known-recorded : tie.Need-enum-known-recorded
 enum-known-recorded c = search needs

@@ -1,15 +1,12 @@
 -- `gillacorn::tables::started_of` meets its contract: case by case.
 -- Assumes nothing.
-use mathlib.Core.Path.{_≡_, refl, sym, ap, _∙_}
+use mathlib.Core.Path.{sym, ap}
 use Rattle.omap.specs.declared.cursor.Started.{Started}
 use Rattle.omap.specs.Step.{toldStarted}
 use Rattle.gillacorn.specs.Tables.{startedOf}
 use borrow.Author.Needs.{needs}
 use Rattle.gillacorn.proofs.tables.started_of.Statement.{statement}
 use Rattle.gillacorn.proofs.tables.started_of.Tie as tie
-use Rattle.gillacorn.proofs.tables.started_of.Reads as reads
-use Rattle.gillacorn.proofs.tables.started_of.Lts as lts
-use Rattle.gillacorn.proofs.code.number_of.Reads as number-of-reads
 
 enum-known-started : tie.Need-enum-known-started
 enum-known-started c = search needs

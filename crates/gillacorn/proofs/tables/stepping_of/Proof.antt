@@ -1,15 +1,12 @@
 -- `gillacorn::tables::stepping_of` meets its contract: case by case.
 -- Assumes nothing.
-use mathlib.Core.Path.{_≡_, refl, sym, ap, _∙_}
+use mathlib.Core.Path.{sym, ap}
 use Rattle.omap.specs.declared.cursor.Step.{Step}
 use Rattle.omap.specs.Step.{toldStep}
 use Rattle.gillacorn.specs.Tables.{steppingOf}
 use borrow.Author.Needs.{needs}
 use Rattle.gillacorn.proofs.tables.stepping_of.Statement.{statement}
 use Rattle.gillacorn.proofs.tables.stepping_of.Tie as tie
-use Rattle.gillacorn.proofs.tables.stepping_of.Reads as reads
-use Rattle.gillacorn.proofs.tables.stepping_of.Lts as lts
-use Rattle.gillacorn.proofs.code.number_of.Reads as number-of-reads
 
 enum-known-step : tie.Need-enum-known-step
 enum-known-step c = search needs
