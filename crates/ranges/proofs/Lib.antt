@@ -1,0 +1,4 @@
+pub mod Planning
+pub mod Pulling
+pub mod Listing
+pub mod Draining
