@@ -1,0 +1,272 @@
+//! What was compared, row by row.
+
+use std::fmt::Debug;
+
+use crate::case::{Case, Put};
+use crate::replay::Sample;
+
+macro_rules! operations {
+    ($($op:ident = $number:literal, $name:literal;)*) => {
+        /// An operation, with its number in a replay.
+        #[derive(Clone, Copy, Debug, Eq, PartialEq)]
+        pub enum Op { $($op),* }
+
+        impl Op {
+            pub const ALL: &'static [Op] = &[$(Op::$op),*];
+
+            pub fn name(self) -> &'static str {
+                match self { $(Op::$op => $name),* }
+            }
+
+            pub fn number(self) -> u8 {
+                match self { $(Op::$op => $number),* }
+            }
+        }
+    };
+}
+
+operations! {
+    Header = 1, "header";
+    Name = 2, "name";
+    Flags = 3, "flags";
+    Alignment = 4, "alignment";
+    RecordAt = 5, "record_at";
+    Lookup = 6, "lookup";
+    LookupRange = 7, "lookup_range";
+    CursorStart = 8, "cursor start";
+    CursorStep = 9, "cursor step";
+    List = 10, "list";
+    Clash = 11, "clash";
+    WayBack = 12, "way_back";
+    SectionOffset = 13, "section_offset";
+    VirtualAddress = 14, "virtual_address";
+    RvaToInternalRva = 20, "Rva::to_internal_rva";
+    RvaToSectionOffset = 21, "Rva::to_section_offset";
+    RvaToInternalOffset = 22, "Rva::to_internal_offset";
+    InternalRvaToRva = 23, "PdbInternalRva::to_rva";
+    InternalRvaToSectionOffset = 24, "PdbInternalRva::to_section_offset";
+    InternalRvaToInternalOffset = 25, "PdbInternalRva::to_internal_offset";
+    OffsetToRva = 26, "SectionOffset::to_rva";
+    OffsetToInternalRva = 27, "SectionOffset::to_internal_rva";
+    OffsetToInternalOffset = 28, "SectionOffset::to_internal_offset";
+    InternalOffsetToRva = 29, "PdbInternalSectionOffset::to_rva";
+    InternalOffsetToInternalRva = 30, "PdbInternalSectionOffset::to_internal_rva";
+    InternalOffsetToSectionOffset = 31, "PdbInternalSectionOffset::to_section_offset";
+    RvaRanges = 32, "rva_ranges";
+    InternalRvaRanges = 33, "internal_rva_ranges";
+    RangeIter = 34, "RangeIter (the wrapper's)";
+    OldFrame = 15, "old frame";
+    NewFrame = 16, "new frame";
+    FrameNext = 17, "frame iteration";
+    FramesAt = 18, "frames from an address";
+    FramesEmpty = 19, "is_empty";
+}
+
+/// Who says what is right.
+#[derive(Clone, Copy, Debug, Eq, PartialEq)]
+pub enum Judge {
+    /// pdb, inside the domain of equality.
+    Rust,
+    /// Document 01's rules, for refusals and outside the domain.
+    Rules,
+    /// A count over every address, for what pdb lacks.
+    Count,
+}
+
+/// A difference from pdb that docs/DIFFERENCES.md lists, met where pdb was asked all the same.
+#[derive(Clone, Copy, Debug, Eq, PartialEq)]
+pub enum Listed {
+    WrongLength,
+    TooMany,
+    Order,
+    Sum,
+    OffPath,
+    Extent,
+    EmptyTable,
+}
+
+impl Listed {
+    const ALL: [(Listed, &'static str); 7] = [
+        (
+            Listed::WrongLength,
+            "a wrong length: 1 here, an error on opening there",
+        ),
+        (Listed::TooMany, "too many records: 2 here, an answer there"),
+        (Listed::Order, "out of order: 3 here, an answer there"),
+        (
+            Listed::Sum,
+            "a sum past 32 bits: 4 here, a wrapped sum there",
+        ),
+        (
+            Listed::OffPath,
+            "damage off the path: an answer here, an error on opening there",
+        ),
+        (
+            Listed::Extent,
+            "an extent past 32 bits: found here, not found there",
+        ),
+        (
+            Listed::EmptyTable,
+            "an empty table by pdb's own reader: no records here, an error there",
+        ),
+    ];
+}
+
+#[derive(Clone, Copy, Default)]
+struct Row {
+    judged: [u64; 3],
+    unexplained: u64,
+}
+
+#[derive(Default)]
+pub struct Tally {
+    rows: Vec<Row>,
+    listed: [u64; Listed::ALL.len()],
+    shown: u64,
+    judges_differ: u64,
+    builds_compared: u64,
+    builds_differ: u64,
+    pub sample: Option<Sample>,
+}
+
+/// Disagreements that are printed; the rest are counted.
+const SHOWN: u64 = 40;
+
+impl Tally {
+    pub fn new(sample: Option<Sample>) -> Self {
+        Tally {
+            rows: vec![Row::default(); Op::ALL.len()],
+            sample,
+            ..Tally::default()
+        }
+    }
+
+    /// Compares one answer with what the judge says.
+    pub fn check<T: Put + PartialEq + Debug>(
+        &mut self,
+        op: Op,
+        judge: Judge,
+        expected: &T,
+        ours: &T,
+        input: impl Fn(&mut Case),
+    ) {
+        let row = &mut self.rows[op as usize];
+        row.judged[judge as usize] += 1;
+        if ours != expected {
+            row.unexplained += 1;
+            self.show(op.name(), judge, expected, ours, &input);
+        } else if let Some(sample) = &mut self.sample {
+            sample.offer(op, judge, expected, input);
+        }
+    }
+
+    /// As `check`, where the rules always have an answer and pdb has one inside the domain: there
+    /// the two judges have to agree as well.
+    pub fn judge<T: Put + PartialEq + Debug>(
+        &mut self,
+        op: Op,
+        rule: T,
+        rust: Option<T>,
+        ours: T,
+        input: impl Fn(&mut Case),
+    ) {
+        let rust = match rust {
+            Some(rust) => rust,
+            None => return self.check(op, Judge::Rules, &rule, &ours, input),
+        };
+        if rust != rule {
+            self.judges_differ += 1;
+            self.show("the two judges", Judge::Rust, &rust, &rule, &input);
+        }
+        self.check(op, Judge::Rust, &rust, &ours, input);
+    }
+
+    /// pdb as it is against pdb with its fields laid open.
+    pub fn builds<T: PartialEq + Debug>(
+        &mut self,
+        unchanged: T,
+        opened: T,
+        input: impl Fn(&mut Case),
+    ) {
+        self.builds_compared += 1;
+        if unchanged != opened {
+            self.builds_differ += 1;
+            self.show(
+                "the two builds of pdb",
+                Judge::Rust,
+                &unchanged,
+                &opened,
+                &input,
+            );
+        }
+    }
+
+    pub fn listed(&mut self, difference: Listed) {
+        self.listed[difference as usize] += 1;
+    }
+
+    fn show(
+        &mut self,
+        what: &str,
+        judge: Judge,
+        expected: &dyn Debug,
+        found: &dyn Debug,
+        input: &dyn Fn(&mut Case),
+    ) {
+        self.shown += 1;
+        if self.shown <= SHOWN {
+            let mut case = Case::for_report();
+            input(&mut case);
+            println!("DIFFERS {what}:{}", case.text.unwrap_or_default());
+            println!("    {judge:?} says {expected:x?}");
+            println!("    found    {found:x?}");
+        }
+    }
+
+    /// Answers compared so far for the given operations.
+    pub fn compared(&self, ops: &[Op]) -> u64 {
+        let sum = |op: &Op| self.rows[*op as usize].judged.iter().sum::<u64>();
+        ops.iter().map(sum).sum()
+    }
+
+    /// Prints the tables; true if nothing is unexplained.
+    pub fn report(&self) -> bool {
+        println!("| operation | answers | by pdb | by the rules | by counting | unexplained |");
+        println!("|---|---:|---:|---:|---:|---:|");
+        let mut all = Row::default();
+        let line = |name: &str, row: &Row| {
+            let sum: u64 = row.judged.iter().sum();
+            let [rust, rules, count] = row.judged;
+            println!(
+                "| {name} | {sum} | {rust} | {rules} | {count} | {} |",
+                row.unexplained
+            );
+        };
+        for &op in Op::ALL {
+            let row = &self.rows[op as usize];
+            if row.judged.iter().sum::<u64>() == 0 {
+                continue;
+            }
+            line(op.name(), row);
+            (0..3).for_each(|i| all.judged[i] += row.judged[i]);
+            all.unexplained += row.unexplained;
+        }
+        line("all", &all);
+        println!();
+        println!("| listed difference from pdb | met |");
+        println!("|---|---:|");
+        for (difference, text) in Listed::ALL {
+            println!("| {text} | {} |", self.listed[difference as usize]);
+        }
+        println!();
+        println!(
+            "pdb unchanged and pdb with its fields laid open: {} compared, {} differ",
+            self.builds_compared, self.builds_differ
+        );
+        println!(
+            "pdb and the rules, inside the domain: {} differ",
+            self.judges_differ
+        );
+        all.unexplained + self.judges_differ + self.builds_differ == 0
+    }
+}

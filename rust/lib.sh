@@ -1,0 +1,82 @@
+# For the scripts beside it (source it): what the Rust side needs, the proved archive, and a build.
+# Words that the caller may set:
+#   GILLACORN_LIB   a folder that has libgillacorn.a already; else `rt staticlib gillacorn` makes it
+#   PDB_SRC         the folder of pdb's source; else ../shared/docs/src beside the repository
+
+rust=$(cd "$(dirname "${BASH_SOURCE[0]}")" && pwd)
+repository=$(dirname "$rust")
+
+# Everything that a build needs. Exits with 77 where something can't be had.
+ready() {
+    bash "$rust/setup.sh" || exit $?
+    # shellcheck disable=SC1091
+    . "$rust/target/setup/env"
+    # A backtrace needs what the emulator does not give.
+    export RUST_BACKTRACE=0
+    if [ -n "${GILLACORN_LIB:-}" ]; then
+        GILLACORN_LIB=$(cd "$GILLACORN_LIB" && pwd)
+    else
+        GILLACORN_LIB=$repository/target/staticlib
+        archive
+    fi
+    export GILLACORN_LIB
+}
+
+# The archive takes a proof to make: once for all scripts, until a source is newer.
+archive() {
+    (
+        cd "$repository"
+        made=$GILLACORN_LIB/libgillacorn.a
+        if [ -f "$made" ] && [ -z "$(find crates crates.txt -newer "$made" -print -quit)" ]; then
+            exit 0
+        fi
+        rt staticlib gillacorn >"$rust/target/staticlib.log" 2>&1 || {
+            cat "$rust/target/staticlib.log" >&2
+            exit 1
+        }
+    ) || exit $?
+}
+
+# pdb's own files, without which nothing can be compared.
+ready_for_pdb() {
+    PDB_SRC=$(cd "${PDB_SRC:-$repository/../shared/docs/src}" 2>/dev/null && pwd) || PDB_SRC=
+    export PDB_SRC
+    if [ ! -f "$PDB_SRC/src/omap.rs" ] && [ ! -f "$PDB_SRC/omap.rs" ]; then
+        echo "setup: not to be had: the source of pdb 0.8.0 (PDB_SRC names its folder)" >&2
+        exit 77
+    fi
+    ready
+}
+
+# The groups of the face that the archive has, by the last function of each.
+groups() {
+    local pair
+    for pair in pe:alignment omap:cursor_step ranges:list clash:way_back \
+        address_map:internal_offset_to_section_offset frames:frames_empty; do
+        if grep -aq "gillacorn_${pair#*:}" "$GILLACORN_LIB/libgillacorn.a"; then
+            echo -n "${pair%:*} "
+        fi
+    done
+}
+
+# Exits with 77 where the archive lacks a group.
+need() {
+    local group
+    for group in "$@"; do
+        [[ " $(groups)" == *" $group "* ]] || {
+            echo "setup: not to be had: the group $group of the face" >&2
+            exit 77
+        }
+    done
+}
+
+cargo_here() { # what to do, then words for it
+    "$CARGO" "$1" --offline --quiet --manifest-path "$rust/Cargo.toml" "${@:2}"
+}
+
+# Runs a program of the release build, under the emulator where there is one.
+run() {
+    local program=$1
+    shift
+    ${GILLACORN_EMULATOR:-} "$rust/target/$CARGO_BUILD_TARGET/release/$program" "$@"
+}

@@ -1,0 +1,68 @@
+#!/usr/bin/env bash
+# A PDB that others' tools made (clang and lld-link, 32-bit code): its frame data and its section
+# headers, decoded through the face and held beside what llvm-pdbutil says of them.
+# Exits with 77, after one line, where a tool is missing.
+set -euo pipefail
+. "$(dirname "$0")/../rust/lib.sh"
+
+for tool in clang lld-link llvm-pdbutil; do
+    command -v $tool >/dev/null || {
+        echo "real_pdb: not to be had: $tool (Debian: clang lld llvm)" >&2
+        exit 77
+    }
+done
+ready
+need frames
+cargo_here build --release -p readers
+
+made=$rust/target/real_pdb
+rm -rf "$made" && mkdir -p "$made"
+cd "$made"
+
+# Functions with locals, saved registers and prologs of several steps.
+{
+    echo 'int g;'
+    for n in $(seq 1 40); do
+        echo "__declspec(noinline) int f$n(int a, int b, int c) { int x[$((n % 9 * 3 + 1))];
+              for (int i = 0; i < (int)(sizeof x / sizeof *x); i++) x[i] = a * i + b / (c | 1);
+              g += x[a & $((n % 9))]; return g $([ "$n" -gt 1 ] && echo "+ f$((n - 1))(b, c, a)"); }"
+    done
+    echo 'int mainCRTStartup(void) { return f40(1, 2, 3); }'
+} >some.c
+clang --target=i686-pc-windows-msvc -gcodeview -g -O1 -fomit-frame-pointer -fno-inline -c some.c -o some.obj
+lld-link /debug /entry:mainCRTStartup /subsystem:console /nodefaultlib /out:some.exe /pdb:some.pdb some.obj
+
+stream() { # the number of a stream by its heading, or nothing
+    llvm-pdbutil dump -streams some.pdb | sed -n "s/^ *Stream *\([0-9]*\) .*\[$1\]\$/\1/p"
+}
+export_to() {
+    llvm-pdbutil export --stream="$1" --out="$2" some.pdb >/dev/null
+}
+export_to "$(stream 'New FPO Data')" new
+export_to "$(stream 'Section Header Data')" headers
+export_to /names names
+
+llvm-pdbutil dump -fpo some.pdb | awk -F ' *[|] *' '
+    /New FPO Data/ { new = 1 }
+    new && $1 ~ /^[0-9A-F]+$/ {
+        sub(/ +$/, "", $11)
+        print $1, "fdata", $2, $3, $4, $5, $6, $7, $8, $9, $10, $11
+    }' >said.frames
+run frames - new names >our.frames
+diff said.frames our.frames || { echo "real_pdb: frames differ" >&2; exit 1; }
+
+llvm-pdbutil dump -section-headers some.pdb | awk '
+    /Original Section Headers/ { exit }
+    /SECTION HEADER/ { number = substr($3, 2); line = ""; next }
+    / name$/ { name = $1; next }
+    / (virtual|size of raw|file pointer|number of)/ { line = line " " $1 }
+    / flags$/ { print number, name line, $1 }' >said.headers
+run sections --table headers | while read -r number name rest; do
+    # Without the flags by name, and with the name as text.
+    set -- $rest
+    echo "$number $(printf '%b' "$(echo "$name" | sed 's/\(00\)*$//; s/../\\x&/g')") ${*:1:9}"
+done >our.headers
+diff said.headers our.headers || { echo "real_pdb: section headers differ" >&2; exit 1; }
+
+[ -s our.frames ] && [ -s our.headers ]
+echo "real_pdb: $(wc -l <our.frames) frames and $(wc -l <our.headers) section headers, all as llvm-pdbutil has them"
