@@ -5,4 +5,5 @@ pub mod clashes;
 pub mod code;
 pub mod frames;
 pub mod headers;
+pub mod lists;
 pub mod tables;

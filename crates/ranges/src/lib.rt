@@ -1,11 +1,11 @@
 // The pieces of a window as a lent list of records.
 ghost use mathlib.Core.Path.{_≡_};
 ghost use mathlib.Core.Bool.{true, false};
-ghost use mathlib.Core.List.{List, _∷_, map};
+ghost use mathlib.Core.List.{List};
 ghost use Prim.Native.Nat.{ℕ, _<_};
 ghost use lib.ListN.{length};
 ghost use Rattle.omap.specs.Output.{allFit, toldWindowed, windowSpec};
-ghost use Rattle.ranges.specs.Shown.{asPiece, listOut};
+ghost use Rattle.ranges.specs.Shown.{listOut};
 ghost use Rattle.ranges.specs.Left.{left, Planned, Pulled};
 
 pub mod reader;
@@ -22,7 +22,7 @@ pub struct Piece {
     pub end: u32,
 }
 
-// What a call has to do before it is done.
+// What a call is to answer, and to write.
 struct Task {
     pub told: Windowed,
     // So many pieces are written, none where the call refuses.
@@ -156,13 +156,15 @@ fn pull_in(table: &[u8], a: u32, b: u32, i: usize) -> Found
             Part::Past => {}
         }
     }
+    // Not reached, since a piece is left.
     Found {
         piece: Piece { start: 0, end: 0 },
         next: n,
     }
 }
 
-// The pieces of a..b as records of start and end, in source order. A refused call writes nothing.
+// The pieces of a..b as records of start and end, in source order, with the answers of `lookup_range`; an entry of the
+// lent list is a record. A refused call writes nothing.
 pub fn list(present: bool, table: &[u8], a: u32, b: u32, out: &mut [Piece]) -> Windowed
     ensures { λ r. ⌜ (toldWindowed r ≡ windowSpec present (now (table .entry)) a b (length (now (out .entry)))) × (now (out .exit) ≡ listOut present (now (table .entry)) a b (now (out .entry))) ⌝ }
 {

@@ -112,6 +112,7 @@ fn begin(present: bool, table: &[u8], a: u32, b: u32, places: usize) -> Begun
     let started = Cursor::start(present, table, a, b);
     match started {
         Started::At(cursor) => Begun { told, cursor },
+        // Not reached, since the plan has passed the table.
         Started::Refused(_) => Begun {
             told,
             cursor: nowhere,

@@ -33,7 +33,7 @@ use denote.Memory.{pointee}
 use denote.Plain.{uint-vals, uint-tells, uint-makes, bool-vals, bool-tells, bool-makes}
 use denote.Builtin.{u8, u32, usize, bool}
 use denote.Ref.{RefT, now}
-use denote.Slice.{sliceTy, sliceVal, MutSlice, ShrSlice, heres, Room, slice-vals, mut-slice-tells, shr-slice-tells, shr-slice-lawful, shr-slice-copy, at-slice, codedHoleys}
+use denote.Slice.{sliceTy, sliceVal, MutSlice, ShrSlice, heres, Room, slice-vals, mut-slice-tells, shr-slice-tells, shr-slice-lawful, at-slice, codedHoleys}
 use denote.Lend.{Held}
 use denote.Index.{place-is, row, elem-out, elem-put, opens-slice, closes-slice}
 use denote.Signature.{plain}
@@ -55,6 +55,7 @@ use Rattle.ranges.specs.Left.{left, Planned, Pulled}
 use Rattle.ranges.specs.declared.Piece.{Piece}
 use Rattle.ranges.specs.declared.Task.{Task}
 use Rattle.ranges.specs.declared.Found.{Found}
+use Rattle.ranges.proofs.Handed.{one-value, handed}
 use Rattle.ranges.proofs.Listing.{Listing, Nearer, nearer-wf, listing-first, listing-room, listing-last, listing-asks, listing-more}
 use Rattle.ranges.proofs.Piece as P
 use Rattle.ranges.proofs.Piece.Laws as P′
@@ -93,9 +94,6 @@ nearer : (k n : ℕ) → k < n → n - (k + 1) < n - k
 nearer k n l = omega arith
 
 -- ---- the machine values of a plan and of an answer of `pull`
-one-value : (u v : Val) → u ∷ [] ≡ v ∷ [] → u ≡ v
-one-value u v e = cc
-
 task-value : (t : Task) (u : Val) → Is K.the-row t (u ∷ []) → u ≡ K′.lowered t
 task-value t u is = one-value u (K′.lowered t) (K′.the-field-laws .low-is t (u ∷ []) is)
 
@@ -178,42 +176,33 @@ module _ {M : Type 1} (𝓤 : URA M) (H : Heap 𝓤) (A : Atoms 𝓤) (W : Given
     abbrev passed : ℕ → Passed
     passed i = (on, (s, (lo, (hi, (i, tt)))))
 
+    abbrev spelled : ℕ → Vals plan.signature (κ₀, tt)
+    spelled i = (vbool on ∷ [], (v ∷ [], (vint w32 lo ∷ [], (vint w32 hi ∷ [], (vint w64 i ∷ [], tt)))))
+
+    abbrev Asks : ℕ → Item 𝓤
+    Asks i = (‵ (flft κ₀ q₀) ⊛ ‵ ftrue) ⊛ ‵ (owns (bool ∷ ShrSlice (named 0) κ₀ u8 ∷ u32 ∷ u32 ∷ usize ∷ []) (passed i) (spelled i))
+
     -- ---- the call of `plan`
-    abbrev at-plan : Vals plan.signature (κ₀, tt)
-    at-plan = (vbool on ∷ [], (v ∷ [], (vint w32 lo ∷ [], (vint w32 hi ∷ [], (vint w64 (length xs) ∷ [], tt)))))
 
     abbrev to-plan : PlanAt 𝓤 H A mem run .Ghost
-    to-plan = (((κ₀, tt), (q₀, tt), tt, passed (length xs), at-plan), tt)
-
-    asked-plan : ent 𝓤 (onEntry 𝓤 H A plan.signature (κ₀, tt) (q₀, tt) (passed (length xs)) at-plan) (PlanAt 𝓤 H A mem run .pre to-plan)
-    asked-plan = qed W ((‵ (flft κ₀ q₀) ⊛ ‵ ftrue) ∷ ‵ (owns (bool ∷ ShrSlice (named 0) κ₀ u8 ∷ u32 ∷ u32 ∷ usize ∷ []) (passed (length xs)) at-plan) ∷ []) ∵ join ! $ frame ! $ done !
+    to-plan = (((κ₀, tt), (q₀, tt), tt, passed (length xs), spelled (length xs)), tt)
 
     goes-plan : ent 𝓤 (⋆ 𝓤 H A (‵ (flft κ₀ q₀) ∷ ‵ Own ∷ [])) (sep 𝓤 (PlanAt 𝓤 H A mem run .pre to-plan) (sem 𝓤 H A Own))
     goes-plan =
-        qed W (‵ (flft κ₀ q₀) ∷ ‵ Own ∷ []) ∵ move ! (1 ∷ []) $ use1 W (‵ Own ⊛ ‵ Own) (shr-slice-copy 𝓤 H A W (named 0) κ₀ u8 .twice s (v ∷ [])) $ split ! $
-        nothing ! $ owned ! usize (Is usize) (uint-makes 𝓤 H A W w64) (length xs) _ (refl, room .0) $ fjoin ! $ owned ! u32 (Is u32) (uint-makes 𝓤 H A W w32) hi _ (refl, hi-fits) $ fjoin ! $
-        owned ! u32 (Is u32) (uint-makes 𝓤 H A W w32) lo _ (refl, lo-fits) $ fjoin ! $ move ! (1 ∷ 0 ∷ []) $ fjoin ! $ owned ! bool (Is bool) (bool-makes 𝓤 H A W) on _ refl $ fjoin ! $
-        nothing ! $ move ! (3 ∷ 0 ∷ []) $ join ! $ use2 W (raw (PlanAt 𝓤 H A mem run .pre to-plan)) asked-plan $ frame ! $ done !
+        qed W (‵ (flft κ₀ q₀) ∷ ‵ Own ∷ []) ∵ use2 W (Asks (length xs) ⊛ ‵ Own) (handed 𝓤 H A W κ₀ q₀ on s lo hi (length xs) lo-fits hi-fits (room .0)) $ split ! $
+        use1 W (raw (PlanAt 𝓤 H A mem run .pre to-plan)) (qed W (Asks (length xs) ∷ []) ∵ frame ! $ done !) $ frame ! $ done !
 
     said-plan : (t : Task) → ent 𝓤 (ensured 𝓤 H A plan.ended (plan.clauses 𝓤 H A mem run) (κ₀, tt) (passed (length xs)) tt t) (fact 𝓤 (Planned on (now s) lo hi (length xs) t))
     said-plan t = exE 𝓤 _ (λ ws. snd∗ 𝓤 (sem 𝓤 H A (lasts plan.ended (κ₀, tt) (passed (length xs)) ws)) (fact 𝓤 (Planned on (now s) lo hi (length xs) t)))
 
     -- ---- the call of `pull`, at place i
-    abbrev at-pull : ℕ → Vals pull.signature (κ₀, tt)
-    at-pull i = (vbool on ∷ [], (v ∷ [], (vint w32 lo ∷ [], (vint w32 hi ∷ [], (vint w64 i ∷ [], tt)))))
-
     abbrev to-pull : ℕ → PullAt 𝓤 H A mem run .Ghost
-    to-pull i = (((κ₀, tt), (q₀, tt), tt, passed i, at-pull i), tt)
-
-    asked-pull : (i : ℕ) → (0 < length (left on (now s) lo hi i)) × (allFit (left on (now s) lo hi i) ≡ true) → ent 𝓤 (onEntry 𝓤 H A pull.signature (κ₀, tt) (q₀, tt) (passed i) (at-pull i)) (PullAt 𝓤 H A mem run .pre (to-pull i))
-    asked-pull i r = qed W ((‵ (flft κ₀ q₀) ⊛ ‵ ftrue) ∷ ‵ (owns (bool ∷ ShrSlice (named 0) κ₀ u8 ∷ u32 ∷ u32 ∷ usize ∷ []) (passed i) (at-pull i)) ∷ []) ∵ says ! r $ frame ! $ done !
+    to-pull i = (((κ₀, tt), (q₀, tt), tt, passed i, spelled i), tt)
 
     goes-pull : (i : ℕ) → i < 2 ^ 64 → (0 < length (left on (now s) lo hi i)) × (allFit (left on (now s) lo hi i) ≡ true) → ent 𝓤 (⋆ 𝓤 H A (‵ (flft κ₀ q₀) ∷ ‵ Own ∷ [])) (sep 𝓤 (PullAt 𝓤 H A mem run .pre (to-pull i)) (sem 𝓤 H A Own))
     goes-pull i i-fits r =
-        qed W (‵ (flft κ₀ q₀) ∷ ‵ Own ∷ []) ∵ move ! (1 ∷ []) $ use1 W (‵ Own ⊛ ‵ Own) (shr-slice-copy 𝓤 H A W (named 0) κ₀ u8 .twice s (v ∷ [])) $ split ! $
-        nothing ! $ owned ! usize (Is usize) (uint-makes 𝓤 H A W w64) i _ (refl, i-fits) $ fjoin ! $ owned ! u32 (Is u32) (uint-makes 𝓤 H A W w32) hi _ (refl, hi-fits) $ fjoin ! $
-        owned ! u32 (Is u32) (uint-makes 𝓤 H A W w32) lo _ (refl, lo-fits) $ fjoin ! $ move ! (1 ∷ 0 ∷ []) $ fjoin ! $ owned ! bool (Is bool) (bool-makes 𝓤 H A W) on _ refl $ fjoin ! $
-        nothing ! $ move ! (3 ∷ 0 ∷ []) $ join ! $ use2 W (raw (PullAt 𝓤 H A mem run .pre (to-pull i))) (asked-pull i r) $ frame ! $ done !
+        qed W (‵ (flft κ₀ q₀) ∷ ‵ Own ∷ []) ∵ use2 W (Asks i ⊛ ‵ Own) (handed 𝓤 H A W κ₀ q₀ on s lo hi i lo-fits hi-fits i-fits) $ split ! $
+        use1 W (raw (PullAt 𝓤 H A mem run .pre (to-pull i))) (qed W (Asks i ∷ []) ∵ split ! $ says ! r $ frame ! $ done !) $ frame ! $ done !
 
     said-pull : (i : ℕ) (f : Found) → ent 𝓤 (ensured 𝓤 H A pull.ended (pull.clauses 𝓤 H A mem run) (κ₀, tt) (passed i) tt f) (fact 𝓤 (Pulled on (now s) lo hi i f))
     said-pull i f = exE 𝓤 _ (λ ws. snd∗ 𝓤 (sem 𝓤 H A (lasts pull.ended (κ₀, tt) (passed i) ws)) (fact 𝓤 (Pulled on (now s) lo hi i f)))
@@ -352,10 +341,10 @@ module _ {M : Type 1} (𝓤 : URA M) (H : Heap 𝓤) (A : Atoms 𝓤) (W : Given
         peeks ! K.the-row (Is K.the-row) (shows 𝓤 H A K.the-row) t (u ∷ []) (λ is. drop ! $
         land ! (from ! (stop !)) (init ! 24 refl (LL.lawful K.the-type K′.the-laws 𝓤 H A W .typed t _ is .0)) $
         rewrite ! 24 (λ (z : Val). ‵ (fat fullShare K′.mir l₆ 0 z)) (task-value t u is) refl $
-        split ! $ keep ! (0 ∷ 2 ∷ 3 ∷ 5 ∷ 6 ∷ 9 ∷ 10 ∷ 11 ∷ 12 ∷ 13 ∷ 14 ∷ 15 ∷ 16 ∷ 17 ∷ 18 ∷ 19 ∷ 20 ∷ 21 ∷ 22 ∷ 23 ∷ 24 ∷ 25 ∷ 26 ∷ 27 ∷ 28 ∷ 29 ∷ 30 ∷ 31 ∷ 32 ∷ 33 ∷ 34 ∷ 35 ∷ 36 ∷ 37 ∷ 38 ∷ []) $ rest 𝓣 known-pull t p (spelled t u is) l₀ l₁ l₂ l₃ l₄ l₅ l₆ l₇ l₈ l₉ l₁₀ l₁₁ l₁₂ l₁₃ l₁₄)))))))))))))))))))
+        split ! $ keep ! (0 ∷ 2 ∷ 3 ∷ 5 ∷ 6 ∷ 9 ∷ 10 ∷ 11 ∷ 12 ∷ 13 ∷ 14 ∷ 15 ∷ 16 ∷ 17 ∷ 18 ∷ 19 ∷ 20 ∷ 21 ∷ 22 ∷ 23 ∷ 24 ∷ 25 ∷ 26 ∷ 27 ∷ 28 ∷ 29 ∷ 30 ∷ 31 ∷ 32 ∷ 33 ∷ 34 ∷ 35 ∷ 36 ∷ 37 ∷ 38 ∷ []) $ rest 𝓣 known-pull t p (lowered-is t u is) l₀ l₁ l₂ l₃ l₄ l₅ l₆ l₇ l₈ l₉ l₁₀ l₁₁ l₁₂ l₁₃ l₁₄)))))))))))))))))))
       where
-        spelled : (t : Task) (u : Val) → Is K.the-row t (u ∷ []) → Is K.the-row t (K′.lowered t ∷ [])
-        spelled t u is = subst (λ (z : Val). Is K.the-row t (z ∷ [])) (task-value t u is) is
+        lowered-is : (t : Task) (u : Val) → Is K.the-row t (u ∷ []) → Is K.the-row t (K′.lowered t ∷ [])
+        lowered-is t u is = subst (λ (z : Val). Is K.the-row t (z ∷ [])) (task-value t u is) is
 
 module _ {M : Type 1} (𝓤 : URA M) (H : Heap 𝓤) (A : Atoms 𝓤) (W : Given 𝓤 H A) (mem : Memory → SProp 𝓤) (run : Routine → Fun 𝓤) where
   list-walks : (𝓣 : Tables 𝓤 H) → Triple 𝓤 (𝓣 .C #ranges·plan) (PlanAt 𝓤 H A mem run) → Triple 𝓤 (𝓣 .C #ranges·pull) (PullAt 𝓤 H A mem run) → Walks 𝓤 H A list.ended stayed (WpFn 𝓤 H (𝓣 .C) (𝓣 .Λ) code.function) (list.clauses 𝓤 H A mem run)

@@ -63,6 +63,8 @@ use Rattle.ranges.specs.Drain.{asTurn, Began}
 use Rattle.ranges.specs.declared.reader.RangeReader.{RangeReader}
 use Rattle.ranges.specs.declared.reader.Turn.{Turn}
 use Rattle.ranges.specs.declared.reader.Begun.{Begun}
+use Rattle.ranges.proofs.Determined.{one-reader}
+use Rattle.ranges.proofs.Handed.{one-value, handed}
 use Rattle.ranges.proofs.Draining.{Draining, Nearer, nearer-wf, draining-first, draining-last, draining-more, draining-nearer, draining-room}
 use Rattle.ranges.proofs.reader.RangeReader as T
 use Rattle.ranges.proofs.reader.RangeReader.Laws as T′
@@ -113,9 +115,6 @@ within : (k n p : ℕ) → k + 2 ≤ n → p ≡ n → (k < p) × (k + 1 < p)
 within k n p l e = (omega arith, omega arith)
 
 -- ---- the machine values of what the callees return
-one-value : (u v : Val) → u ∷ [] ≡ v ∷ [] → u ≡ v
-one-value u v e = cc
-
 begun-value : (g : Begun) (u : Val) → Is Be.the-row g (u ∷ []) → u ≡ Be′.lowered g
 begun-value g u is = one-value u (Be′.lowered g) (Be′.the-field-laws .low-is g (u ∷ []) is)
 
@@ -226,8 +225,7 @@ module _ {M : Type 1} (𝓤 : URA M) (H : Heap 𝓤) (A : Atoms 𝓤) (W : Given
   Made r c = (r .present ≡ on) × ((r .table ≡ s) × (r .cursor ≡ c))
 
   reader-is : (r : RangeReader) (c : Cursor) → Made r c → r ≡ rd c
-  reader-is r c e =
-      ap (λ (y : Bool). record { present = y; table = r .table; cursor = r .cursor }) (e .0) ∙ ap (λ (y : RefT (List ℕ)). record { present = on; table = y; cursor = r .cursor }) (e .1 .0) ∙ ap rd (e .1 .1)
+  reader-is r c e = one-reader r (rd c) e
 
   reader-value : (r : RangeReader) (c : Cursor) (u : Val) → Made r c → Is R r (u ∷ []) → u ≡ T′.lowered (rd c)
   reader-value r c u e is = one-value u (T′.lowered r) (LL.tells (T.the-type α) (T′.the-laws α) r (u ∷ []) is) ∙ ap T′.lowered (reader-is r c e)
@@ -266,13 +264,13 @@ module _ {M : Type 1} (𝓤 : URA M) (H : Heap 𝓤) (A : Atoms 𝓤) (W : Given
     abbrev to-begin : BeginAt 𝓤 H A mem run .Ghost
     to-begin = (((κ₀, tt), (q₀, tt), tt, asked, at-begin), tt)
 
+    abbrev Asks : Item 𝓤
+    Asks = (‵ (flft κ₀ q₀) ⊛ ‵ ftrue) ⊛ ‵ (owns (bool ∷ ShrSlice (named 0) κ₀ u8 ∷ u32 ∷ u32 ∷ usize ∷ []) asked at-begin)
+
     goes-begin : ent 𝓤 (⋆ 𝓤 H A (‵ (flft κ₀ q₀) ∷ ‵ Own ∷ [])) (sep 𝓤 (BeginAt 𝓤 H A mem run .pre to-begin) (sem 𝓤 H A Own))
     goes-begin =
-        qed W (‵ (flft κ₀ q₀) ∷ ‵ Own ∷ []) ∵ move ! (1 ∷ []) $ use1 W (‵ Own ⊛ ‵ Own) (shr-slice-copy 𝓤 H A W (named 0) κ₀ u8 .twice s (v ∷ [])) $ split ! $
-        nothing ! $ owned ! usize (Is usize) (uint-makes 𝓤 H A W w64) (length xs) _ (refl, room .0) $ fjoin ! $ owned ! u32 (Is u32) (uint-makes 𝓤 H A W w32) hi _ (refl, hi-fits) $ fjoin ! $
-        owned ! u32 (Is u32) (uint-makes 𝓤 H A W w32) lo _ (refl, lo-fits) $ fjoin ! $ move ! (1 ∷ 0 ∷ []) $ fjoin ! $ owned ! bool (Is bool) (bool-makes 𝓤 H A W) on _ refl $ fjoin ! $
-        nothing ! $ move ! (3 ∷ 0 ∷ []) $ join ! $ use2 W (raw (BeginAt 𝓤 H A mem run .pre to-begin))
-        (qed W ((‵ (flft κ₀ q₀) ⊛ ‵ ftrue) ∷ ‵ (owns (bool ∷ ShrSlice (named 0) κ₀ u8 ∷ u32 ∷ u32 ∷ usize ∷ []) asked at-begin) ∷ []) ∵ join ! $ frame ! $ done !) $ frame ! $ done !
+        qed W (‵ (flft κ₀ q₀) ∷ ‵ Own ∷ []) ∵ use2 W (Asks ⊛ ‵ Own) (handed 𝓤 H A W κ₀ q₀ on s lo hi (length xs) lo-fits hi-fits (room .0)) $ split ! $
+        use1 W (raw (BeginAt 𝓤 H A mem run .pre to-begin)) (qed W (Asks ∷ []) ∵ frame ! $ done !) $ frame ! $ done !
 
     said-begin : (g : Begun) → ent 𝓤 (ensured 𝓤 H A begin.ended (begin.clauses 𝓤 H A mem run) (κ₀, tt) asked tt g) (fact 𝓤 (Began on (now s) lo hi (length xs / 2) g))
     said-begin g = exE 𝓤 _ (λ ws. snd∗ 𝓤 (sem 𝓤 H A (lasts begin.ended (κ₀, tt) asked ws)) (fact 𝓤 (Began on (now s) lo hi (length xs / 2) g)))

@@ -1,0 +1,4 @@
+pub mod Writing
+pub mod Windows
+pub mod WindowCase
+pub mod Determined

@@ -1,0 +1,45 @@
+-- `report::text::numbered` meets its contract: the word, the digits and the line feed, one after the other.
+-- Assumes nothing.
+use native.Mathlib.Omega.{arith}
+use Rattle.report.proofs.Writing.{length-digits, wrote-both}
+use borrow.Author.Needs.{needs}
+use Rattle.report.proofs.text.numbered.Statement.{statement}
+use Rattle.report.proofs.text.numbered.Tie as tie
+use Rattle.report.proofs.text.numbered.Reads as reads
+use Rattle.report.proofs.text.numbered.Lts as lts
+use Rattle.report.proofs.text.digits.Reads as digits-reads
+use Rattle.report.proofs.text.places.Reads as places-reads
+use Rattle.report.proofs.text.put.Reads as put-reads
+
+put-requires : tie.Need-put-requires
+put-requires c κs = search needs
+
+places-requires : tie.Need-places-requires
+places-requires c κs = search needs
+
+digits-requires : tie.Need-digits-requires
+digits-requires c κs = search needs
+
+slice-aggregate-put : tie.Need-slice-aggregate-put
+slice-aggregate-put c = search needs
+
+put-requires-2 : tie.Need-put-requires-2
+put-requires-2 c κs = omega (arith, length-digits 10 (c .before .before .before .before .before .before .places .result) (c .before .before .before .before .before .before .before .before .before .before .before .before .before .args .n))
+
+same-length : tie.Need-same-length
+same-length c = search needs
+
+returns : tie.Need-returns
+returns c = rw (← (c .before .before .before .before .before .before .before .before .before .places .ensures)) (wrote-both (c .before .before .before .before .before .before .before .before .before .before .before .before .put .ensures) (wrote-both (c .before .before .before .before .before .before .before .digits .ensures) (c .before .before .put2 .ensures)))
+
+pub numbered-spec : {M : Type 1} → statement M
+numbered-spec =
+    tie.close
+    (tie.spec
+    put-requires
+    places-requires
+    digits-requires
+    slice-aggregate-put
+    put-requires-2
+    same-length
+    returns)

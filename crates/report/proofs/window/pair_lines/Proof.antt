@@ -1,0 +1,101 @@
+-- `report::window::pair_lines` meets its contract: the lines that are left, written onto the output as it is, give the output as it will be.
+-- Assumes nothing.
+use Prim.Native.Nat.{ℕ, _+_, _-_, _*_, _/_, _≤_, _<_}
+use mathlib.Core.Path.{_≡_, refl, sym, ap, _∙_}
+use mathlib.Core.List.{List, [], _++_}
+use native.Mathlib.Omega.{arith}
+use lib.ListN.{length, drop, getD, length-drop}
+use denote.Ref.{now}
+use Rattle.report.specs.Window.{pairLine, pairLines}
+use Rattle.report.proofs.Writing.{Left, left-first, left-last, left-room, left-more}
+use Rattle.report.proofs.Windows.{length-pair, pair-less, pairs-none}
+use Rattle.report.proofs.window.pair_lines.Statement.{statement}
+use Rattle.report.proofs.window.pair_lines.Tie as tie
+use Rattle.report.proofs.window.pair_lines.Reads as reads
+use Rattle.report.proofs.window.pair_lines.Lts as lts
+use Rattle.report.proofs.window.pair_line.Reads as pair-line-reads
+
+abbrev Inv-loop : tie.InvT-loop
+Inv-loop pairs out₀ at n i₀ k₀ out i k = (i ≤ n) × Left (pairLines pairs) out₀ at (pairLines (drop (2 * i) pairs)) out k
+
+abbrev μ-loop : tie.MeasureT-loop
+μ-loop pairs out₀ at n i₀ k₀ out i k = n - i
+
+loop-holds : tie.Need-loop-holds Inv-loop μ-loop
+loop-holds c = (omega arith, left-first (pairLines (now (c .before .before .args .pairs))) (now (c .before .before .args .out)) (c .before .before .args .at))
+
+mul-pair-line : tie.Need-mul-pair-line Inv-loop μ-loop
+mul-pair-line c = omega arith
+
+mul-pair-line-2 : tie.Need-mul-pair-line-2 Inv-loop μ-loop
+mul-pair-line-2 c = omega arith
+
+shared-slice-read-pair-line : tie.Need-shared-slice-read-pair-line Inv-loop μ-loop
+shared-slice-read-pair-line c = omega arith
+
+mul-pair-line-3 : tie.Need-mul-pair-line-3 Inv-loop μ-loop
+mul-pair-line-3 c = omega arith
+
+add-pair-line : tie.Need-add-pair-line Inv-loop μ-loop
+add-pair-line c = omega arith
+
+mul-pair-line-4 : tie.Need-mul-pair-line-4 Inv-loop μ-loop
+mul-pair-line-4 c = omega arith
+
+shared-slice-read-pair-line-2 : tie.Need-shared-slice-read-pair-line-2 Inv-loop μ-loop
+shared-slice-read-pair-line-2 c = omega arith
+
+pair-line-requires : tie.Need-pair-line-requires Inv-loop μ-loop
+pair-line-requires c κs =
+    let l = c .before .before .before .before .loop in
+    let s = now (c .before .before .before .before .before .before .before .args .pairs) in
+    let x = getD s (2 * l .i) 0 in
+    let y = getD s (2 * l .i + 1) 0 in
+    let e : pairLines (drop (2 * l .i) s) ≡ pairLine x y ++ pairLines (drop (2 * (l .i + 1)) s) = pair-less s (l .i) (omega arith) in
+    omega (arith, length-pair x y, left-room (pairLine x y) (pairLines (drop (2 * (l .i + 1)) s)) (l .inv .1) e (c .before .before .before .before .before .before .before .pre))
+
+add-i : tie.Need-add-i Inv-loop μ-loop
+add-i c = omega arith
+
+loop-less : tie.Need-loop-less Inv-loop μ-loop
+loop-less c = omega arith
+
+loop-again : tie.Need-loop-again Inv-loop μ-loop
+loop-again c =
+    let l = c .before .before .before .before .before .before .before .loop in
+    let s = now (c .before .before .before .before .before .before .before .before .before .before .args .pairs) in
+    let x = getD s (2 * l .i) 0 in
+    let y = getD s (2 * l .i + 1) 0 in
+    let e : pairLines (drop (2 * l .i) s) ≡ pairLine x y ++ pairLines (drop (2 * (l .i + 1)) s) = pair-less s (l .i) (omega arith) in
+    (omega arith, left-more (pairLine x y) (pairLines (drop (2 * (l .i + 1)) s)) (l .inv .1) e (c .before .before .pair-line .ensures))
+
+same-length : tie.Need-same-length Inv-loop μ-loop
+same-length c = c .before .loop .inv .1 .kept
+
+returns : tie.Need-returns Inv-loop μ-loop
+returns c =
+    let l = c .before .loop in
+    let s = now (c .before .before .before .before .args .pairs) in
+    let e : pairLines (drop (2 * l .i) s) ≡ [] = pairs-none (drop (2 * l .i) s) (omega (arith, length-drop (2 * l .i) s)) in
+    left-last (c .before .before .before .before .pre) (rw e at (l .inv .1))
+
+pub pair-lines-spec : {M : Type 1} → statement M
+pair-lines-spec =
+    tie.close
+    (tie.spec
+    Inv-loop
+    μ-loop
+    loop-holds
+    mul-pair-line
+    mul-pair-line-2
+    shared-slice-read-pair-line
+    mul-pair-line-3
+    add-pair-line
+    mul-pair-line-4
+    shared-slice-read-pair-line-2
+    pair-line-requires
+    add-i
+    loop-less
+    loop-again
+    same-length
+    returns)

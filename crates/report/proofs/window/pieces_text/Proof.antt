@@ -1,0 +1,49 @@
+-- `report::window::pieces_text` meets its contract: the lines, and the line that counts them.
+-- Assumes nothing.
+use Prim.Native.Nat.{_*_}
+use mathlib.Core.Path.{sym}
+use native.Mathlib.Omega.{arith}
+use lib.Seq.{length-take-le}
+use denote.Ref.{now}
+use Rattle.report.proofs.Writing.{places-most, wrote-both}
+use Rattle.report.proofs.Windows.{taken-pairs}
+use borrow.Author.Needs.{needs}
+use Rattle.report.proofs.window.pieces_text.Statement.{statement}
+use Rattle.report.proofs.window.pieces_text.Tie as tie
+use Rattle.report.proofs.window.pieces_text.Reads as reads
+use Rattle.report.proofs.window.pieces_text.Lts as lts
+use Rattle.report.proofs.text.numbered.Reads as numbered-reads
+use Rattle.report.proofs.window.pair_lines.Reads as pair-lines-reads
+
+mul-last : tie.Need-mul-last
+mul-last c = search needs
+
+slice-aggregate-pair-lines : tie.Need-slice-aggregate-pair-lines
+slice-aggregate-pair-lines c = sym (length-take-le (2 * c .before .before .before .args .n) (now (c .before .before .before .args .pairs)) (c .before .before .before .pre .0))
+
+pair-lines-requires : tie.Need-pair-lines-requires
+pair-lines-requires c κs = omega (arith, taken-pairs (now (c .before .before .before .before .args .pairs)) (c .before .before .before .before .args .n) (c .before .before .before .before .pre .0))
+
+slice-aggregate-numbered : tie.Need-slice-aggregate-numbered
+slice-aggregate-numbered c = search needs
+
+numbered-requires : tie.Need-numbered-requires
+numbered-requires c κs = omega (arith, taken-pairs (now (c .before .before .before .before .before .before .before .before .before .args .pairs)) (c .before .before .before .before .before .before .before .before .before .args .n) (c .before .before .before .before .before .before .before .before .before .pre .0), places-most 3 (c .before .before .before .before .before .before .before .before .before .args .n) (omega arith))
+
+same-length : tie.Need-same-length
+same-length c = search needs
+
+returns : tie.Need-returns
+returns c = wrote-both (c .before .before .before .before .before .before .before .pair-lines .ensures) (c .before .before .numbered .ensures)
+
+pub pieces-text-spec : {M : Type 1} → statement M
+pieces-text-spec =
+    tie.close
+    (tie.spec
+    mul-last
+    slice-aggregate-pair-lines
+    pair-lines-requires
+    slice-aggregate-numbered
+    numbered-requires
+    same-length
+    returns)

@@ -1,0 +1,83 @@
+-- `report::window_text` meets its contract: by the length of the input.
+-- Assumes nothing.
+use mathlib.Core.Path.{_≡_, sym, ap, _∙_, subst}
+use native.Mathlib.Omega.{arith}
+use denote.Ref.{now}
+use Rattle.report.specs.Window.{windowText}
+use Rattle.report.proofs.Writing.{printed, not-printed, part-from}
+use Rattle.report.proofs.Windows.{short, long, whole}
+use borrow.Author.Needs.{needs}
+use Rattle.report.proofs.window.window_text.Statement.{statement}
+use Rattle.report.proofs.window.window_text.Tie as tie
+use Rattle.report.proofs.window.window_text.Reads as reads
+use Rattle.report.proofs.window.window_text.Lts as lts
+use Rattle.lent.proofs.u32_at.Reads as u32-at-reads
+use Rattle.report.proofs.text.refused.Reads as refused-reads
+use Rattle.report.proofs.window.table_text.Reads as table-text-reads
+
+returns : tie.Need-returns
+returns c = not-printed 147456 (windowText (now (c .before .before .before .args .input))) (now (c .before .before .before .args .out)) (c .if1 .taken)
+
+refused-requires : tie.Need-refused-requires
+refused-requires c κs = search needs
+
+same-length : tie.Need-same-length
+same-length c = search needs
+
+returns-2 : tie.Need-returns-2
+returns-2 c = printed 147456 (c .before .before .before .before .before .if1 .left) (rw (short (now (c .before .before .before .before .before .before .before .before .args .input)) (c .before .before .before .before .if2 .taken)) (c .before .before .refused .ensures))
+
+refused-requires-2 : tie.Need-refused-requires-2
+refused-requires-2 c κs = search needs
+
+same-length-2 : tie.Need-same-length-2
+same-length-2 c = search needs
+
+returns-3 : tie.Need-returns-3
+returns-3 c = printed 147456 (c .before .before .before .before .before .before .if1 .left) (rw (long (now (c .before .before .before .before .before .before .before .before .before .args .input)) (c .before .before .before .before .if3 .taken)) (c .before .before .refused2 .ensures))
+
+u32-at-requires : tie.Need-u32-at-requires
+u32-at-requires c κs = search needs
+
+u32-at-requires-2 : tie.Need-u32-at-requires-2
+u32-at-requires-2 c κs = search needs
+
+sub-table-text : tie.Need-sub-table-text
+sub-table-text c = search needs
+
+part-table-text-start : tie.Need-part-table-text-start
+part-table-text-start c = search needs
+
+part-table-text-end : tie.Need-part-table-text-end
+part-table-text-end c = search needs
+
+table-text-requires : tie.Need-table-text-requires
+table-text-requires c κs = search needs
+
+same-length-3 : tie.Need-same-length-3
+same-length-3 c = search needs
+
+returns-4 : tie.Need-returns-4
+returns-4 c =
+    let s = now (c .before .before .before .before .before .before .before .before .before .before .before .before .args .input) in
+    printed 147456 (c .before .before .before .before .before .before .before .before .before .if1 .left) (rw (whole s (c .before .before .before .before .before .before .before .before .if2 .left) (c .before .before .before .before .before .before .before .if3 .left), ← (c .before .before .before .before .before .before .u32-at .ensures), ← (c .before .before .before .before .before .u32-at2 .ensures), ← (part-from 8 s)) (c .before .before .table-text .ensures))
+
+pub window-text-spec : {M : Type 1} → statement M
+window-text-spec =
+    tie.close
+    (tie.spec
+    returns
+    refused-requires
+    same-length
+    returns-2
+    refused-requires-2
+    same-length-2
+    returns-3
+    u32-at-requires
+    u32-at-requires-2
+    sub-table-text
+    part-table-text-start
+    part-table-text-end
+    table-text-requires
+    same-length-3
+    returns-4)

@@ -1,0 +1,65 @@
+-- Texts. A text is a list of bytes, in ASCII; each of its lines ends in a line feed, 10.
+use Prim.Native.Nat.{ℕ, zero, suc, _+_, _/_, _%_, _≤_}
+use mathlib.Core.Path.{_≡_}
+use mathlib.Core.Bool.{cond}
+use mathlib.Core.List.{List, [], _∷_, _++_}
+use lib.ListN.{length}
+use lib.Seq.{sets}
+use lib.Dec.{ltb, leb}
+use Rattle.omap.specs.Output.{laid}
+
+-- a digit below 16: `0` to `9`, then `A` to `F`
+unfoldable pub glyph : ℕ → ℕ
+glyph d = cond (ltb d 10) (48 + d) (55 + d)
+
+-- the last w digits of n in base b, the most significant first
+unfoldable pub digits : ℕ → ℕ → ℕ → List ℕ
+digits b zero n = []
+digits b (suc w) n = digits b w (n / b) ++ (glyph (n % b) ∷ [])
+
+-- w hex digits of n
+abbrev pub hex : ℕ → ℕ → List ℕ
+hex w n = digits 16 w n
+
+-- how many decimal digits n has, where its digits are at most as many as the first number, and one
+unfoldable pub placesIn : ℕ → ℕ → ℕ
+placesIn zero n = 1
+placesIn (suc f) n = cond (ltb n 10) 1 (suc (placesIn f (n / 10)))
+
+-- how many decimal digits n has, without leading zeros: 0 has one
+abbrev pub places : ℕ → ℕ
+places n = placesIn n n
+
+-- n in decimal, without leading zeros
+abbrev pub decimal : ℕ → List ℕ
+decimal n = digits 10 (places n) n
+
+-- a line: a word, a number in decimal, a line feed
+abbrev pub numbered : List ℕ → ℕ → List ℕ
+numbered word n = word ++ (decimal n ++ (10 ∷ []))
+
+-- the line of each element, one after the other
+unfoldable pub lines : {A : Type 0} → (A → List ℕ) → List A → List ℕ
+lines f [] = []
+lines f (x ∷ l) = f x ++ lines f l
+
+-- `refused `
+abbrev pub refusedWord : List ℕ
+refusedWord = 114 ∷ 101 ∷ 102 ∷ 117 ∷ 115 ∷ 101 ∷ 100 ∷ 32 ∷ []
+
+-- a refused run prints this line only
+abbrev pub refusedText : ℕ → List ℕ
+refusedText n = numbered refusedWord n
+
+-- a text is written over lent bytes from a place on, inside them, and the place after it is answered
+pub record Wrote (text before : List ℕ) (at r : ℕ) (after : List ℕ) : Type 0 where
+  pub place : r ≡ at + length text
+  pub bytes : after ≡ sets before at text
+  pub room : at + length text ≤ length before
+
+-- A whole text at the front of lent bytes, and its length as the answer. With less room than the largest text of its kind
+-- needs, the answer is 0 and the bytes are as they were.
+pub record Printed (room : ℕ) (text before : List ℕ) (r : ℕ) (after : List ℕ) : Type 0 where
+  pub answer : r ≡ cond (leb room (length before)) (length text) 0
+  pub bytes : after ≡ cond (leb room (length before)) (laid text before) before
+  pub within : r ≤ length after

@@ -1,0 +1,85 @@
+// Words and numbers, written into lent bytes from a place on; each answers the place after its text.
+ghost use mathlib.Core.Path.{_≡_};
+ghost use Prim.Native.Nat.{_+_, _≤_, _<_};
+ghost use lib.ListN.{length};
+ghost use lib.Seq.{sets};
+ghost use Rattle.report.specs.Text.{glyph, digits, hex, places, decimal, numbered, refusedText, Wrote};
+
+// A digit below 16 in ASCII.
+fn glyph(d: u64) -> u8
+    requires { ⌜ d < 16 ⌝ }
+    ensures { λ r. ⌜ r ≡ glyph d ⌝ }
+{
+    if d < 10 {
+        (48 + d) as u8
+    } else {
+        (55 + d) as u8
+    }
+}
+
+// The last `width` digits of n, from the last one down.
+fn digits(n: u64, base: u64, width: usize, out: &mut [u8], at: usize) -> usize
+    requires { ⌜ ((2 ≤ base) × (base ≤ 16)) × (at + width ≤ length (now out)) ⌝ }
+    ensures { λ r. ⌜ Wrote (digits base width n) (now (out .entry)) at r (now (out .exit)) ⌝ }
+{
+    let mut left = n;
+    let mut k = width;
+    while 0 < k {
+        k -= 1;
+        out[at + k] = glyph(left % base);
+        left /= base;
+    }
+    at + width
+}
+
+// How many decimal digits n has.
+pub fn places(n: usize) -> usize
+    ensures { λ r. ⌜ r ≡ places n ⌝ }
+{
+    let mut left = n;
+    let mut k = 1;
+    while left >= 10 {
+        left /= 10;
+        k += 1;
+    }
+    k
+}
+
+// The bytes of a word.
+pub fn put(word: &[u8], out: &mut [u8], at: usize) -> usize
+    requires { ⌜ at + length (now word) ≤ length (now out) ⌝ }
+    ensures { λ r. ⌜ Wrote (now (word .entry)) (now (out .entry)) at r (now (out .exit)) ⌝ }
+{
+    let mut i = 0;
+    while i < word.len() {
+        out[at + i] = word[i];
+        i += 1;
+    }
+    at + i
+}
+
+// A number of 32 bits as eight hex digits.
+pub fn hex8(n: u32, out: &mut [u8], at: usize) -> usize
+    requires { ⌜ at + 8 ≤ length (now out) ⌝ }
+    ensures { λ r. ⌜ Wrote (hex 8 n) (now (out .entry)) at r (now (out .exit)) ⌝ }
+{
+    digits(n as u64, 16, 8, out, at)
+}
+
+// A word, a number in decimal, and a line feed.
+pub fn numbered(word: &[u8], n: usize, out: &mut [u8], at: usize) -> usize
+    requires { ⌜ at + (length (now word) + (places n + 1)) ≤ length (now out) ⌝ }
+    ensures { λ r. ⌜ Wrote (numbered (now (word .entry)) n) (now (out .entry)) at r (now (out .exit)) ⌝ }
+{
+    let named = put(word, out, at);
+    let told = digits(n as u64, 10, places(n), out, named);
+    put(b"\n", out, told)
+}
+
+// A refusal's line, alone.
+pub fn refused(n: usize, out: &mut [u8]) -> usize
+    requires { ⌜ (n < 10) × (10 ≤ length (now out)) ⌝ }
+    ensures { λ r. ⌜ Wrote (refusedText n) (now (out .entry)) 0 r (now (out .exit)) ⌝ }
+{
+    numbered(b"refused ", n, out, 0)
+}

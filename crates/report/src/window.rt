@@ -1,0 +1,99 @@
+// What the program `window` prints.
+ghost use mathlib.Core.Path.{_≡_};
+ghost use mathlib.Core.List.{_++_};
+ghost use Prim.Native.Nat.{_+_, _*_, _≤_};
+ghost use lib.ListN.{length, take};
+ghost use Rattle.lent.specs.Paper.{number};
+ghost use Rattle.report.specs.Text.{numbered, Wrote, Printed};
+ghost use Rattle.report.specs.Window.{pairLine, pairLines, piecesWord, tableText, windowText, windowRoom};
+use crate::text::hex8;
+use crate::text::numbered;
+use crate::text::put;
+use crate::text::refused;
+use lent::Refusal;
+use omap::window::Windowed;
+use omap::window::lookup_range;
+
+// Room for the largest text: 8,191 lines of 18 bytes, and the line that counts them.
+pub const WINDOW_ROOM: usize = 147456;
+
+// The paper's number of a table's refusal.
+fn number(why: Refusal) -> usize
+    ensures { λ r. ⌜ r ≡ number why ⌝ }
+{
+    match why {
+        Refusal::Length => 1,
+        Refusal::Count => 2,
+        Refusal::Order => 3,
+    }
+}
+
+// Two numbers on a line.
+fn pair_line(x: u32, y: u32, out: &mut [u8], at: usize) -> usize
+    requires { ⌜ at + 18 ≤ length (now out) ⌝ }
+    ensures { λ r. ⌜ Wrote (pairLine x y) (now (out .entry)) at r (now (out .exit)) ⌝ }
+{
+    let first = hex8(x, out, at);
+    let space = put(b" ", out, first);
+    let second = hex8(y, out, space);
+    put(b"\n", out, second)
+}
+
+// The line of each pair of numbers.
+fn pair_lines(pairs: &[u32], out: &mut [u8], at: usize) -> usize
+    requires { ⌜ at + length (pairLines (now pairs)) ≤ length (now out) ⌝ }
+    ensures { λ r. ⌜ Wrote (pairLines (now (pairs .entry))) (now (out .entry)) at r (now (out .exit)) ⌝ }
+{
+    let n = pairs.len() / 2;
+    let mut i = 0;
+    let mut k = at;
+    while i < n {
+        k = pair_line(pairs[2 * i], pairs[2 * i + 1], out, k);
+        i += 1;
+    }
+    k
+}
+
+// The lines of the first n pairs, and their number.
+fn pieces_text(pairs: &[u32], n: usize, out: &mut [u8]) -> usize
+    requires { ⌜ (2 * n ≤ length (now pairs)) × ((n ≤ 8191) × (windowRoom ≤ length (now out))) ⌝ }
+    ensures { λ r. ⌜ Wrote (pairLines (take (2 * n) (now (pairs .entry))) ++ numbered piecesWord n) (now (out .entry)) 0 r (now (out .exit)) ⌝ }
+{
+    let last = 2 * n;
+    let at = pair_lines(&pairs[..last], out, 0);
+    numbered(b"pieces ", n, out, at)
+}
+
+// The pieces of a window of a table, or its refusal.
+fn table_text(a: u32, b: u32, table: &[u8], out: &mut [u8]) -> usize
+    requires { ⌜ (length (now table) ≤ 65528) × (windowRoom ≤ length (now out)) ⌝ }
+    ensures { λ r. ⌜ Wrote (tableText a b (now (table .entry))) (now (out .entry)) 0 r (now (out .exit)) ⌝ }
+{
+    let mut pairs = [0u32; 16384];
+    let windowed = lookup_range(true, table, a, b, &mut pairs);
+    match windowed {
+        Windowed::Pieces(n) => pieces_text(&pairs, n, out),
+        Windowed::Refused(why) => refused(number(why), out),
+        Windowed::TooLarge => refused(4, out),
+        Windowed::Short(_) => refused(5, out),
+    }
+}
+
+// What the program `window` prints for an input of a, b and an OMAP table. The answer is the
+// length of the text, or 0 where `out` is shorter than `WINDOW_ROOM`.
+pub fn window_text(input: &[u8], out: &mut [u8]) -> usize
+    ensures { λ r. ⌜ Printed windowRoom (windowText (now (input .entry))) (now (out .entry)) r (now (out .exit)) ⌝ }
+{
+    if out.len() < WINDOW_ROOM {
+        return 0;
+    }
+    if input.len() < 8 {
+        return refused(1, out);
+    }
+    if input.len() > 65536 {
+        return refused(2, out);
+    }
+    let a = lent::u32_at(input, 0);
+    let b = lent::u32_at(input, 4);
+    table_text(a, b, &input[8..], out)
+}
