@@ -5,6 +5,5 @@ set -euo pipefail
 . "$(dirname "$0")/lib.sh"
 
 ready_for_pdb
-need clash frames
 cargo_here build --release -p bench
 run bench "$@"

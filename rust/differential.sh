@@ -6,5 +6,5 @@ set -euo pipefail
 . "$(dirname "$0")/lib.sh"
 
 ready_for_pdb
-cargo_here build --release -p differential --no-default-features --features "$(groups)"
+cargo_here build --release -p differential
 run differential "$@"

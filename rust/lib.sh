@@ -48,28 +48,6 @@ ready_for_pdb() {
     ready
 }
 
-# The groups of the face that the archive has, by the last function of each.
-groups() {
-    local pair
-    for pair in pe:alignment omap:cursor_step ranges:list clash:way_back \
-        address_map:internal_offset_to_section_offset frames:frames_empty; do
-        if grep -aq "gillacorn_${pair#*:}" "$GILLACORN_LIB/libgillacorn.a"; then
-            echo -n "${pair%:*} "
-        fi
-    done
-}
-
-# Exits with 77 where the archive lacks a group.
-need() {
-    local group
-    for group in "$@"; do
-        [[ " $(groups)" == *" $group "* ]] || {
-            echo "setup: not to be had: the group $group of the face" >&2
-            exit 77
-        }
-    done
-}
-
 cargo_here() { # what to do, then words for it
     "$CARGO" "$1" --offline --quiet --manifest-path "$rust/Cargo.toml" "${@:2}"
 }

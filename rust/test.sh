@@ -12,11 +12,6 @@ if [ -n "${GILLACORN_EMULATOR:-}" ]; then
     export RUSTC_BOOTSTRAP=1
     tests+=(-Z doctest-xcompile)
 fi
-tests+=(--)
-for pair in clash:clash frames:framedata; do
-    # What the archive lacks can't be linked.
-    (need "${pair%:*}") 2>/dev/null || tests+=(--skip "${pair#*:}")
-done
 cargo_here "${tests[@]}"
 
 work=$(mktemp -d)

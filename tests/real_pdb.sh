@@ -12,7 +12,6 @@ for tool in clang lld-link llvm-pdbutil; do
     }
 done
 ready
-need frames
 cargo_here build --release -p readers
 
 made=$rust/target/real_pdb

@@ -1,37 +1,18 @@
 //! Gillacorn and pdb on the same inputs. See `USAGE`.
 
-// Without some groups, what they alone use is left over.
-#![cfg_attr(
-    not(all(
-        feature = "clash",
-        feature = "address_map",
-        feature = "frames",
-        feature = "ranges"
-    )),
-    allow(dead_code)
-)]
-
 mod case;
-#[cfg(feature = "clash")]
 mod clash;
-#[cfg(feature = "omap")]
 mod cursor;
-#[cfg(feature = "frames")]
 mod frames;
 mod gen;
-#[cfg(feature = "ranges")]
 mod list;
-#[cfg(feature = "address_map")]
 mod map;
-#[cfg(feature = "omap")]
 mod omap;
 mod ours;
-#[cfg(feature = "pe")]
 mod pe;
 mod replay;
 mod rng;
 mod rules;
-#[cfg(feature = "address_map")]
 mod sections;
 mod tally;
 
@@ -54,17 +35,11 @@ differential [--seed N] [--inputs N | --inputs GROUP=N | --gate | --full] [--onl
 type Group = (&'static str, u64, fn(&mut Tally, &mut Rng, u64));
 
 const GROUPS: &[Group] = &[
-    #[cfg(feature = "pe")]
     ("pe", 1_300_000, pe::run),
-    #[cfg(feature = "omap")]
     ("omap", 3_800_000, omap::run),
-    #[cfg(feature = "ranges")]
     ("ranges", 500_000, list::run),
-    #[cfg(feature = "clash")]
     ("clash", 700_000, clash::run),
-    #[cfg(feature = "address_map")]
     ("address_map", 2_500_000, map::run),
-    #[cfg(feature = "frames")]
     ("frames", 1_500_000, frames::run),
 ];
 
