@@ -126,17 +126,46 @@ gillacorn_value gillacorn_virtual_address(const uint8_t *table, size_t length, u
     bool has_to_original, const uint8_t *to_original, size_t to_original_length,          \
     bool has_to_transformed, const uint8_t *to_transformed, size_t to_transformed_length
 
+/* Each conversion reads the tables on its path alone, in this order, and refuses at the first step
+ * that fails; none stops it. Absent original sections count as none. "Actual sections" are the
+ * transformed ones where they are present, else the original ones. */
+
+/* An address of the executable, through to-original: 1, 2, 3, none, 4. */
 gillacorn_value gillacorn_rva_to_internal_rva(uint32_t rva, GILLACORN_MAP);
+
+/* An address of the executable, in the actual sections: 1, 2, none. */
 gillacorn_offset gillacorn_rva_to_section_offset(uint32_t rva, GILLACORN_MAP);
+
+/* An address of the executable, through to-original, in the original sections. */
 gillacorn_offset gillacorn_rva_to_internal_offset(uint32_t rva, GILLACORN_MAP);
+
+/* An address of the PDB, through to-transformed: 1, 2, 3, none, 4. */
 gillacorn_value gillacorn_internal_rva_to_rva(uint32_t rva, GILLACORN_MAP);
+
+/* An address of the PDB, through to-transformed, in the actual sections. */
 gillacorn_offset gillacorn_internal_rva_to_section_offset(uint32_t rva, GILLACORN_MAP);
+
+/* An address of the PDB, in the original sections: 1, 2, none. */
 gillacorn_offset gillacorn_internal_rva_to_internal_offset(uint32_t rva, GILLACORN_MAP);
+
+/* An offset in the actual sections, as an address of the executable: 1, 2, none, 4. */
 gillacorn_value gillacorn_offset_to_rva(uint16_t section, uint32_t offset, GILLACORN_MAP);
+
+/* An offset in the actual sections, then through to-original. */
 gillacorn_value gillacorn_offset_to_internal_rva(uint16_t section, uint32_t offset, GILLACORN_MAP);
+
+/* An offset in the transformed sections, through to-original, in the original sections; with no
+ * transformed sections the same offset, and no table is read. */
 gillacorn_offset gillacorn_offset_to_internal_offset(uint16_t section, uint32_t offset, GILLACORN_MAP);
+
+/* An offset in the original sections, then through to-transformed. */
 gillacorn_value gillacorn_internal_offset_to_rva(uint16_t section, uint32_t offset, GILLACORN_MAP);
+
+/* An offset in the original sections, as an address of the PDB: 1, 2, none, 4. */
 gillacorn_value gillacorn_internal_offset_to_internal_rva(uint16_t section, uint32_t offset, GILLACORN_MAP);
+
+/* An offset in the original sections, through to-transformed, in the transformed sections; with no
+ * transformed sections the same offset, and no table is read. */
 gillacorn_offset gillacorn_internal_offset_to_section_offset(uint16_t section, uint32_t offset, GILLACORN_MAP);
 
 /* ---- frames ---- */
