@@ -1,6 +1,7 @@
 //! The four kinds of address. Each is a type of its own, so that one can't be passed for another.
 
 use std::fmt;
+use std::ops::{Add, AddAssign, Sub};
 
 macro_rules! virtual_address {
     ($(#[$doc:meta])* $type:ident) => {
@@ -18,6 +19,35 @@ macro_rules! virtual_address {
             /// larger.
             pub fn checked_sub(self, other: Self) -> Option<u32> {
                 self.0.checked_sub(other.0)
+            }
+
+            /// Saturating addition of an offset, clipped at the numeric bounds.
+            pub fn saturating_add(self, offset: u32) -> Self {
+                Self(self.0.saturating_add(offset))
+            }
+
+            /// Saturating computation of an offset between two addresses, clipped at zero.
+            pub fn saturating_sub(self, other: Self) -> u32 {
+                self.0.saturating_sub(other.0)
+            }
+
+            /// Wrapping (modular) addition of an offset.
+            pub fn wrapping_add(self, offset: u32) -> Self {
+                Self(self.0.wrapping_add(offset))
+            }
+
+            /// Wrapping (modular) computation of an offset between two addresses.
+            pub fn wrapping_sub(self, other: Self) -> u32 {
+                self.0.wrapping_sub(other.0)
+            }
+        }
+
+        impl Sub for $type {
+            type Output = u32;
+
+            /// The offset between two addresses. Panics in every build if `other` is larger.
+            fn sub(self, other: Self) -> u32 {
+                self.checked_sub(other).expect("an offset below zero")
             }
         }
 
@@ -78,6 +108,16 @@ macro_rules! section_offset {
                 let offset = self.offset.checked_add(offset)?;
                 Some(Self { offset, ..self })
             }
+
+            /// Saturating addition of an offset, clipped at the numeric bounds.
+            pub fn saturating_add(self, offset: u32) -> Self {
+                Self::new(self.section, self.offset.saturating_add(offset))
+            }
+
+            /// Wrapping (modular) addition of an offset.
+            pub fn wrapping_add(self, offset: u32) -> Self {
+                Self::new(self.section, self.offset.wrapping_add(offset))
+            }
         }
     };
 }
@@ -91,3 +131,26 @@ section_offset! {
     /// An offset into a section of the executable before it was rearranged, as a PDB stores it.
     PdbInternalSectionOffset
 }
+
+macro_rules! plus_offset {
+    ($($type:ty),*) => {$(
+        impl Add<u32> for $type {
+            type Output = Self;
+
+            /// Adds an offset. Panics in every build where the sum does not fit: a wrapped address
+            /// would be drawn in the wrong place.
+            fn add(self, offset: u32) -> Self {
+                self.checked_add(offset).expect("an address past 32 bits")
+            }
+        }
+
+        impl AddAssign<u32> for $type {
+            /// Adds an offset, as `+` does.
+            fn add_assign(&mut self, offset: u32) {
+                *self = *self + offset;
+            }
+        }
+    )*};
+}
+
+plus_offset!(Rva, PdbInternalRva, SectionOffset, PdbInternalSectionOffset);
