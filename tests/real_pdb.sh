@@ -50,6 +50,20 @@ llvm-pdbutil dump -fpo some.pdb | awk -F ' *[|] *' '
 run frames - new names >our.frames
 diff said.frames our.frames || { echo "real_pdb: frames differ" >&2; exit 1; }
 
+# The same frames through the program `frames`: no old table, then the stream.
+{
+    printf '\0\0\0\0'
+    cat new
+} >report.in
+"$repository/run" frames <report.in | awk 'NR > 1 && $1 != "frames" { print $1, $9, $2, $3, $4, $7, $5, $6 }' >our.report
+llvm-pdbutil dump -fpo some.pdb | awk -F ' *[|] *' '
+    function hex8(n) { return sprintf("%08X", n) }
+    /New FPO Data/ { new = 1 }
+    new && $1 ~ /^[0-9A-F]+$/ {
+        print $1, "fdata", hex8($2), hex8($3), hex8($4), hex8($5), sprintf("%04X", $6), sprintf("%04X", $7)
+    }' >said.report
+diff said.report our.report || { echo "real_pdb: the report differs" >&2; exit 1; }
+
 llvm-pdbutil dump -section-headers some.pdb | awk '
     /Original Section Headers/ { exit }
     /SECTION HEADER/ { number = substr($3, 2); line = ""; next }
@@ -63,5 +77,5 @@ run sections --table headers | while read -r number name rest; do
 done >our.headers
 diff said.headers our.headers || { echo "real_pdb: section headers differ" >&2; exit 1; }
 
-[ -s our.frames ] && [ -s our.headers ]
+[ -s our.frames ] && [ -s our.headers ] && [ -s our.report ]
 echo "real_pdb: $(wc -l <our.frames) frames and $(wc -l <our.headers) section headers, all as llvm-pdbutil has them"

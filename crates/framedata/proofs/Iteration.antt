@@ -26,24 +26,24 @@ use Rattle.framedata.proofs.Merging.{by-lesser, every-new, every-old, p
 
 module _ (s t : List ℕ) where
   -- what is left at a cursor, from what comes next there
-  abbrev unrolled : FrameCursor → Option Pick → List Pick
+  abbrev pub unrolled : FrameCursor → Option Pick → List Pick
   unrolled c none = []
   unrolled c (some p) = p ∷ left s t (past c p)
 
   module _ (c : FrameCursor) where
-    abbrev i : ℕ
+    abbrev pub i : ℕ
     i = c .«old_index»
 
-    abbrev j : ℕ
+    abbrev pub j : ℕ
     j = c .«new_index»
 
-    abbrev n : ℕ
+    abbrev pub n : ℕ
     n = length s / 16
 
-    abbrev m : ℕ
+    abbrev pub m : ℕ
     m = length t / 32
 
-    abbrev here : Option Pick
+    abbrev pub here : Option Pick
     here = pick (oldAt s i) (newAt t j)
 
     left-none : n ≤ i → m ≤ j → left s t c ≡ unrolled c here
@@ -75,7 +75,7 @@ module _ (s t : List ℕ) where
         (λ e. ap (λ (x : List OldFrame). new (newRecord t j) ∷ merge x (newsFrom t (j + 1))) (sym os))
         (λ e. refl))
 
-    left-step : left s t c ≡ unrolled c here
+    pub left-step : left s t c ≡ unrolled c here
     left-step =
         ⊎-elim
         (λ (h : i < n). ⊎-elim (left-two h) (left-old h) (lt-or-le j m))

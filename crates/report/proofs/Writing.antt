@@ -52,8 +52,8 @@ pub record Left (text before : List ℕ) (at : ℕ) (rest bytes : List ℕ) (k :
 pub left-first : (text before : List ℕ) (at : ℕ) → Left text before at text before at
 left-first text before at = record { kept = refl; places-left = refl; as-will-be = refl }
 
-pub left-last : {text before bytes : List ℕ} {at k : ℕ} → at + length text ≤ length before → Left text before at [] bytes k → Wrote text before at k bytes
-left-last {k = k} h w = record { place = sym (add-zero k) ∙ w .places-left; bytes = w .as-will-be; room = h }
+pub left-last : {text before bytes : List ℕ} {at k : ℕ} → k ≤ length before → Left text before at [] bytes k → Wrote text before at k bytes
+left-last {k = k} h w = record { place = sym (add-zero k) ∙ w .places-left; bytes = w .as-will-be; room = omega (arith, w .places-left) }
 
 -- the next part of the text, and what is left after it
 module _ {text before whole bytes : List ℕ} {at k : ℕ} (a rest : List ℕ) (w : Left text before at whole bytes k) (e : whole ≡ a ++ rest) where

@@ -1,9 +1,12 @@
 // Words and numbers, written into lent bytes from a place on; each answers the place after its text.
 ghost use mathlib.Core.Path.{_≡_};
+ghost use mathlib.Core.List.{_++_};
 ghost use Prim.Native.Nat.{_+_, _≤_, _<_};
 ghost use lib.ListN.{length};
 ghost use lib.Seq.{sets};
+ghost use Rattle.lent.specs.Paper.{number};
 ghost use Rattle.report.specs.Text.{glyph, digits, hex, places, decimal, numbered, refusedText, Wrote};
+use lent::Refusal;
 
 // A digit below 16 in ASCII.
 fn glyph(d: u64) -> u8
@@ -58,12 +61,14 @@ pub fn put(word: &[u8], out: &mut [u8], at: usize) -> usize
     at + i
 }
 
-// A number of 32 bits as eight hex digits.
-pub fn hex8(n: u32, out: &mut [u8], at: usize) -> usize
-    requires { ⌜ at + 8 ≤ length (now out) ⌝ }
-    ensures { λ r. ⌜ Wrote (hex 8 n) (now (out .entry)) at r (now (out .exit)) ⌝ }
+// A number as `width` hex digits, and what stands after them.
+pub fn hex(n: u64, width: usize, after: &[u8], out: &mut [u8], at: usize) -> usize
+    requires { ⌜ at + (width + length (now after)) ≤ length (now out) ⌝ }
+    ensures { λ r. ⌜ Wrote (hex width n ++ now (after .entry)) (now (out .entry)) at r (now (out .exit)) ⌝ }
+    ensures { λ r. ⌜ r ≡ at + (width + length (now (after .entry))) ⌝ }
 {
-    digits(n as u64, 16, 8, out, at)
+    let told = digits(n, 16, width, out, at);
+    put(after, out, told)
 }
 
 // A word, a number in decimal, and a line feed.
@@ -74,6 +79,17 @@ pub fn numbered(word: &[u8], n: usize, out: &mut [u8], at: usize) -> usize
     let named = put(word, out, at);
     let told = digits(n as u64, 10, places(n), out, named);
     put(b"\n", out, told)
+}
+
+// The paper's number of a table's refusal.
+pub fn number(why: Refusal) -> usize
+    ensures { λ r. ⌜ r ≡ number why ⌝ }
+{
+    match why {
+        Refusal::Length => 1,
+        Refusal::Count => 2,
+        Refusal::Order => 3,
+    }
 }
 
 // A refusal's line, alone.

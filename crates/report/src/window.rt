@@ -3,40 +3,25 @@ ghost use mathlib.Core.Path.{_≡_};
 ghost use mathlib.Core.List.{_++_};
 ghost use Prim.Native.Nat.{_+_, _*_, _≤_};
 ghost use lib.ListN.{length, take};
-ghost use Rattle.lent.specs.Paper.{number};
 ghost use Rattle.report.specs.Text.{numbered, Wrote, Printed};
 ghost use Rattle.report.specs.Window.{pairLine, pairLines, piecesWord, tableText, windowText, windowRoom};
-use crate::text::hex8;
+use crate::text::hex;
+use crate::text::number;
 use crate::text::numbered;
-use crate::text::put;
 use crate::text::refused;
-use lent::Refusal;
 use omap::window::Windowed;
 use omap::window::lookup_range;
 
 // Room for the largest text: 8,191 lines of 18 bytes, and the line that counts them.
 pub const WINDOW_ROOM: usize = 147456;
 
-// The paper's number of a table's refusal.
-fn number(why: Refusal) -> usize
-    ensures { λ r. ⌜ r ≡ number why ⌝ }
-{
-    match why {
-        Refusal::Length => 1,
-        Refusal::Count => 2,
-        Refusal::Order => 3,
-    }
-}
-
 // Two numbers on a line.
 fn pair_line(x: u32, y: u32, out: &mut [u8], at: usize) -> usize
     requires { ⌜ at + 18 ≤ length (now out) ⌝ }
     ensures { λ r. ⌜ Wrote (pairLine x y) (now (out .entry)) at r (now (out .exit)) ⌝ }
 {
-    let first = hex8(x, out, at);
-    let space = put(b" ", out, first);
-    let second = hex8(y, out, space);
-    put(b"\n", out, second)
+    let second = hex(x as u64, 8, b" ", out, at);
+    hex(y as u64, 8, b"\n", out, second)
 }
 
 // The line of each pair of numbers.

@@ -77,7 +77,8 @@ returns c =
     let l = c .before .loop in
     let s = now (c .before .before .before .before .args .pairs) in
     let e : pairLines (drop (2 * l .i) s) ≡ [] = pairs-none (drop (2 * l .i) s) (omega (arith, length-drop (2 * l .i) s)) in
-    left-last (c .before .before .before .before .pre) (rw e at (l .inv .1))
+    let w = rw e at (l .inv .1) in
+    left-last (omega (arith, w .places-left)) w
 
 pub pair-lines-spec : {M : Type 1} → statement M
 pair-lines-spec =

@@ -21,7 +21,7 @@ use Rattle.report.proofs.window.table_text.Reads as reads
 use Rattle.report.proofs.window.table_text.Lts as lts
 use Rattle.omap.proofs.window.lookup_range.Reads as lookup-range-reads
 use Rattle.report.proofs.text.refused.Reads as refused-reads
-use Rattle.report.proofs.window.number.Reads as number-reads
+use Rattle.report.proofs.text.number.Reads as number-reads
 use Rattle.report.proofs.window.pieces_text.Reads as pieces-text-reads
 
 -- the answer about the window, with room for 8,192 pairs

@@ -1,0 +1,56 @@
+-- `report::frame_line::frame_line` meets its contract: its columns, one after the other.
+-- Assumes nothing.
+use mathlib.Core.Path.{_≡_, refl, sym, ap, _∙_}
+use native.Mathlib.Omega.{arith}
+use lib.ListN.{take, drop}
+use Rattle.framedata.specs.Frame.{toldFrame}
+use Rattle.report.specs.Frames.{kindColumns, frameLine}
+use Rattle.report.proofs.Writing.{wrote-both}
+use Rattle.report.proofs.Columns.{wrote-columns}
+use borrow.Author.Needs.{needs}
+use Rattle.report.proofs.frame_line.frame_line.Statement.{statement}
+use Rattle.report.proofs.frame_line.frame_line.Tie as tie
+use Rattle.report.proofs.frame_line.frame_line.Reads as reads
+use Rattle.report.proofs.frame_line.frame_line.Lts as lts
+use Rattle.report.proofs.frame_line.kind.Reads as kind-reads
+use Rattle.report.proofs.frame_line.letters.Reads as letters-reads
+use Rattle.report.proofs.frame_line.program.Reads as program-reads
+use Rattle.report.proofs.frame_line.sizes.Reads as sizes-reads
+use Rattle.report.proofs.frame_line.stack.Reads as stack-reads
+
+sizes-requires : tie.Need-sizes-requires
+sizes-requires c κs = search needs
+
+stack-requires : tie.Need-stack-requires
+stack-requires c κs = search needs
+
+program-requires : tie.Need-program-requires
+program-requires c κs = search needs
+
+kind-requires : tie.Need-kind-requires
+kind-requires c κs = search needs
+
+letters-requires : tie.Need-letters-requires
+letters-requires c κs = search needs
+
+same-length : tie.Need-same-length
+same-length c = search needs
+
+returns : tie.Need-returns
+unfolding frameLine
+returns c =
+    let l = kindColumns (toldFrame (c .before .before .before .before .before .before .before .before .before .before .before .before .before .before .before .before .before .before .before .before .before .args .f)) in
+    let kinds = wrote-columns (take 1 l) (drop 1 l) (c .before .before .before .before .before .before .before .before .before .before .before .before .before .before .stack .ensures .0) (wrote-columns (take 1 (drop 1 l)) (drop 2 l) (c .before .before .before .before .before .before .before .before .before .before .program .ensures .0) (c .before .before .before .before .before .before .kind .ensures .0)) in
+    (wrote-both (c .before .before .before .before .before .before .before .before .before .before .before .before .before .before .before .before .before .before .sizes .ensures .0) (wrote-both kinds (c .before .before .letters .ensures .0)), omega arith)
+
+pub frame-line-spec : {M : Type 1} → statement M
+frame-line-spec =
+    tie.close
+    (tie.spec
+    sizes-requires
+    stack-requires
+    program-requires
+    kind-requires
+    letters-requires
+    same-length
+    returns)

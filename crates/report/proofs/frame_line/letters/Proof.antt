@@ -1,0 +1,48 @@
+-- `report::frame_line::letters` meets its contract: the letter of each flag.
+-- Assumes nothing.
+use mathlib.Core.Path.{_≡_, refl, sym, ap, _∙_}
+use native.Mathlib.Omega.{arith}
+use borrow.Author.Needs.{needs}
+use Rattle.report.proofs.frame_line.letters.Statement.{statement}
+use Rattle.report.proofs.frame_line.letters.Tie as tie
+use Rattle.report.proofs.frame_line.letters.Reads as reads
+use Rattle.report.proofs.frame_line.letters.Lts as lts
+use Rattle.report.proofs.frame_line.letter.Reads as letter-reads
+use Rattle.report.proofs.text.put.Reads as put-reads
+
+letter-requires : tie.Need-letter-requires
+letter-requires c κs = search needs
+
+letter-requires-2 : tie.Need-letter-requires-2
+letter-requires-2 c κs = search needs
+
+letter-requires-3 : tie.Need-letter-requires-3
+letter-requires-3 c κs = search needs
+
+letter-requires-4 : tie.Need-letter-requires-4
+letter-requires-4 c κs = search needs
+
+slice-aggregate-put : tie.Need-slice-aggregate-put
+slice-aggregate-put c = search needs
+
+put-requires : tie.Need-put-requires
+put-requires c κs = search needs
+
+same-length : tie.Need-same-length
+same-length c = search needs
+
+returns : tie.Need-returns
+returns c = (rw (← (c .before .before .before .before .before .before .before .before .letter .ensures), ← (c .before .before .before .before .before .before .before .letter2 .ensures), ← (c .before .before .before .before .before .before .letter3 .ensures), ← (c .before .before .before .before .before .letter4 .ensures)) (c .before .before .put .ensures), omega (arith, c .before .before .put .ensures .place))
+
+pub letters-spec : {M : Type 1} → statement M
+letters-spec =
+    tie.close
+    (tie.spec
+    letter-requires
+    letter-requires-2
+    letter-requires-3
+    letter-requires-4
+    slice-aggregate-put
+    put-requires
+    same-length
+    returns)

@@ -1,0 +1,49 @@
+-- `report::frames::listing` meets its contract: the heading, the lines, and the line that counts them.
+-- Assumes nothing.
+use native.Mathlib.Omega.{arith}
+use denote.Ref.{now}
+use Rattle.report.proofs.Writing.{places-most, wrote-both}
+use Rattle.report.proofs.Listing.{length-frames}
+use borrow.Author.Needs.{needs}
+use Rattle.report.proofs.frames.listing.Statement.{statement}
+use Rattle.report.proofs.frames.listing.Tie as tie
+use Rattle.report.proofs.frames.listing.Reads as reads
+use Rattle.report.proofs.frames.listing.Lts as lts
+use Rattle.report.proofs.frames.frame_lines.Reads as frame-lines-reads
+use Rattle.report.proofs.text.numbered.Reads as numbered-reads
+use Rattle.report.proofs.text.put.Reads as put-reads
+
+slice-aggregate-put : tie.Need-slice-aggregate-put
+slice-aggregate-put c = search needs
+
+put-requires : tie.Need-put-requires
+put-requires c κs = search needs
+
+frame-lines-requires : tie.Need-frame-lines-requires
+frame-lines-requires c κs = search needs
+
+slice-aggregate-numbered : tie.Need-slice-aggregate-numbered
+slice-aggregate-numbered c = search needs
+
+numbered-requires : tie.Need-numbered-requires
+numbered-requires c κs = omega (arith, c .before .before .before .before .frame-lines .ensures .1, c .before .before .before .before .before .before .before .before .put .ensures .place, places-most 3 (c .before .before .before .before .before .before .before .before .before .before .before .before .before .before .args .n) (omega arith))
+
+same-length : tie.Need-same-length
+same-length c = search needs
+
+returns : tie.Need-returns
+returns c =
+    rw (length-frames (now (c .before .before .before .before .before .before .before .before .before .before .before .before .before .before .before .before .before .args .old)) (now (c .before .before .before .before .before .before .before .before .before .before .before .before .before .before .before .before .before .args .new)) (c .before .before .before .before .before .before .before .before .before .before .before .before .before .before .before .before .before .pre .0))
+    (wrote-both (c .before .before .before .before .before .before .before .before .before .before .before .put .ensures) (wrote-both (c .before .before .before .before .before .before .before .frame-lines .ensures .0) (c .before .before .numbered .ensures)))
+
+pub listing-spec : {M : Type 1} → statement M
+listing-spec =
+    tie.close
+    (tie.spec
+    slice-aggregate-put
+    put-requires
+    frame-lines-requires
+    slice-aggregate-numbered
+    numbered-requires
+    same-length
+    returns)

@@ -1,0 +1,26 @@
+-- `report::text::hex` meets its contract: the digits, and what stands after them.
+-- Assumes nothing.
+use native.Mathlib.Omega.{arith}
+use Rattle.report.proofs.Writing.{length-digits, wrote-both}
+use borrow.Author.Needs.{needs}
+use Rattle.report.proofs.text.hex.Statement.{statement}
+use Rattle.report.proofs.text.hex.Tie as tie
+use Rattle.report.proofs.text.hex.Reads as reads
+use Rattle.report.proofs.text.hex.Lts as lts
+use Rattle.report.proofs.text.digits.Reads as digits-reads
+use Rattle.report.proofs.text.put.Reads as put-reads
+
+digits-requires : tie.Need-digits-requires
+digits-requires c κs = search needs
+
+put-requires : tie.Need-put-requires
+put-requires c κs = omega (arith, length-digits 16 (c .before .before .before .before .before .before .before .args .width) (c .before .before .before .before .before .before .before .args .n))
+
+same-length : tie.Need-same-length
+same-length c = search needs
+
+returns : tie.Need-returns
+returns c = (wrote-both (c .before .before .before .before .before .before .digits .ensures) (c .before .before .put .ensures), omega (arith, length-digits 16 (c .before .before .before .before .before .before .before .before .before .before .args .width) (c .before .before .before .before .before .before .before .before .before .before .args .n)))
+
+pub hex-spec : {M : Type 1} → statement M
+hex-spec = tie.close (tie.spec digits-requires put-requires same-length returns)

@@ -1,0 +1,121 @@
+// The line of a frame, in columns.
+ghost use mathlib.Core.Path.{_≡_};
+ghost use mathlib.Core.List.{_∷_, [], _++_};
+ghost use Prim.Native.Nat.{_+_, _≤_};
+ghost use lib.ListN.{length};
+ghost use Rattle.framedata.specs.Attributes.{typeNumber};
+ghost use Rattle.framedata.specs.Frame.{toldStack, toldProgram, toldFrame};
+ghost use Rattle.report.specs.Text.{hex, Wrote};
+ghost use Rattle.report.specs.Frames.{padded, columns, typeName, optional, flag, flags, sizeColumns, kindColumns, frameLine};
+use crate::text::hex;
+use crate::text::put;
+use framedata::FrameData;
+use framedata::FrameType;
+use framedata::Program;
+use framedata::StackSize;
+
+// The first three of the sizes' columns.
+fn extent(f: FrameData, out: &mut [u8], at: usize) -> usize
+    requires { ⌜ at + 27 ≤ length (now out) ⌝ }
+    ensures { λ r. ⌜ Wrote (columns (hex 8 (f .«code_start») ∷ (hex 8 (f .«code_size») ∷ (hex 8 (f .«locals_size») ∷ [])))) (now (out .entry)) at r (now (out .exit)) ⌝ }
+    ensures { λ r. ⌜ r ≡ at + 27 ⌝ }
+{
+    let size = hex(f.code_start as u64, 8, b" ", out, at);
+    let locals = hex(f.code_size as u64, 8, b" ", out, size);
+    hex(f.locals_size as u64, 8, b" ", out, locals)
+}
+
+// The other three.
+fn pushed(f: FrameData, out: &mut [u8], at: usize) -> usize
+    requires { ⌜ at + 22 ≤ length (now out) ⌝ }
+    ensures { λ r. ⌜ Wrote (columns (hex 8 (f .«params_size») ∷ (padded 6 (hex 4 (f .«prolog_size»)) ∷ (padded 5 (hex 4 (f .«saved_regs_size»)) ∷ [])))) (now (out .entry)) at r (now (out .exit)) ⌝ }
+    ensures { λ r. ⌜ r ≡ at + 22 ⌝ }
+{
+    let prolog = hex(f.params_size as u64, 8, b" ", out, at);
+    let saved = hex(f.prolog_size as u64, 4, b"   ", out, prolog);
+    hex(f.saved_regs_size as u64, 4, b"  ", out, saved)
+}
+
+fn sizes(f: FrameData, out: &mut [u8], at: usize) -> usize
+    requires { ⌜ at + 49 ≤ length (now out) ⌝ }
+    ensures { λ r. ⌜ Wrote (columns (sizeColumns (toldFrame f))) (now (out .entry)) at r (now (out .exit)) ⌝ }
+    ensures { λ r. ⌜ r ≡ at + 49 ⌝ }
+{
+    let params = extent(f, out, at);
+    pushed(f, out, params)
+}
+
+fn stack(size: StackSize, out: &mut [u8], at: usize) -> usize
+    requires { ⌜ at + 9 ≤ length (now out) ⌝ }
+    ensures { λ r. ⌜ Wrote (columns (optional (toldStack size) ∷ [])) (now (out .entry)) at r (now (out .exit)) ⌝ }
+    ensures { λ r. ⌜ r ≡ at + 9 ⌝ }
+{
+    match size {
+        StackSize::Bytes(n) => hex(n as u64, 8, b" ", out, at),
+        StackSize::Nothing => put(b"-------- ", out, at),
+    }
+}
+
+fn program(string: Program, out: &mut [u8], at: usize) -> usize
+    requires { ⌜ at + 9 ≤ length (now out) ⌝ }
+    ensures { λ r. ⌜ Wrote (columns (optional (toldProgram string) ∷ [])) (now (out .entry)) at r (now (out .exit)) ⌝ }
+    ensures { λ r. ⌜ r ≡ at + 9 ⌝ }
+{
+    match string {
+        Program::At(n) => hex(n as u64, 8, b" ", out, at),
+        Program::Nothing => put(b"-------- ", out, at),
+    }
+}
+
+fn kind(ty: FrameType, out: &mut [u8], at: usize) -> usize
+    requires { ⌜ at + 8 ≤ length (now out) ⌝ }
+    ensures { λ r. ⌜ Wrote (columns (padded 5 (typeName (typeNumber ty)) ∷ [])) (now (out .entry)) at r (now (out .exit)) ⌝ }
+    ensures { λ r. ⌜ r ≤ at + 8 ⌝ }
+{
+    match ty {
+        FrameType::FPO => put(b"fpo   ", out, at),
+        FrameType::Trap => put(b"trap  ", out, at),
+        FrameType::TSS => put(b"tss   ", out, at),
+        FrameType::Standard => put(b"std   ", out, at),
+        FrameType::FrameData => put(b"fdata ", out, at),
+        FrameType::Unknown => put(b"unknown ", out, at),
+    }
+}
+
+// A flag's letter, or `-` where it is not set.
+fn letter(on: bool, letter: u8) -> u8
+    ensures { λ r. ⌜ r ≡ flag on letter ⌝ }
+{
+    if on { letter } else { b'-' }
+}
+
+fn letters(f: FrameData, out: &mut [u8], at: usize) -> usize
+    requires { ⌜ at + 5 ≤ length (now out) ⌝ }
+    ensures { λ r. ⌜ Wrote (flags (toldFrame f) ++ (10 ∷ [])) (now (out .entry)) at r (now (out .exit)) ⌝ }
+    ensures { λ r. ⌜ r ≡ at + 5 ⌝ }
+{
+    let text = [
+        letter(f.has_structured_eh, b's'),
+        letter(f.has_cpp_eh, b'c'),
+        letter(f.is_function_start, b'f'),
+        letter(f.uses_base_pointer, b'b'),
+        b'\n',
+    ];
+    put(&text, out, at)
+}
+
+// A frame on a line.
+pub fn frame_line(f: FrameData, out: &mut [u8], at: usize) -> usize
+    requires { ⌜ at + 80 ≤ length (now out) ⌝ }
+    ensures { λ r. ⌜ Wrote (frameLine (toldFrame f)) (now (out .entry)) at r (now (out .exit)) ⌝ }
+    ensures { λ r. ⌜ r ≤ at + 80 ⌝ }
+{
+    let max_stack_size = f.max_stack_size;
+    let string = f.program;
+    let ty = f.ty;
+    let sized = sizes(f, out, at);
+    let stacked = stack(max_stack_size, out, sized);
+    let programmed = program(string, out, stacked);
+    let typed = kind(ty, out, programmed);
+    letters(f, out, typed)
+}
