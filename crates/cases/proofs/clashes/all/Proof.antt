@@ -1,0 +1,28 @@
+-- Each answer is what the definition by pieces computes to, which is the one by addresses (`clash-computed`, `back-computed`).
+-- Assumes nothing.
+use mathlib.Core.Path.{ap}
+use native.Mathlib.Omega.{arith}
+use Rattle.lent.specs.Le.{leAt}
+use Rattle.lent.specs.Table.{listed, shapeFault}
+use Rattle.lent.specs.Order.{risingAfter, rising, tableFault}
+use Rattle.omap.specs.Records.{records, orElse}
+use Rattle.omap.specs.Window.{nextOf, pieceOf, put, pieces}
+use Rattle.omap.specs.Output.{shown, fits, allFit}
+use Rattle.omap.proofs.Cases.{tableT}
+use Rattle.clash.specs.Clash.{pairedOr, leastTwo}
+use Rattle.clash.specs.Meet.{sourceIn, sourcesIn, firstMet, clashOf}
+use Rattle.clash.proofs.Answers.{clash-computed, back-computed}
+use Rattle.gillacorn.specs.Clashes.{pairOf, sourcesShown}
+use Rattle.cases.proofs.clashes.all.Statement.{statement}
+use Rattle.cases.proofs.clashes.all.Tie as tie
+
+pub all-spec : {M : Type 1} → statement M
+unfolding leAt listed shapeFault risingAfter rising tableFault records orElse nextOf pieceOf put pieces shown fits allFit pairedOr leastTwo sourceIn sourcesIn firstMet clashOf
+all-spec =
+    tie.close
+    (tie.spec
+    (λ c κs. ap pairOf (clash-computed tableT 0x800 0x1400 (omega arith)))
+    (λ c κs. ap pairOf (clash-computed tableT 0x1000 0x1300 (omega arith)))
+    (λ c κs. ap sourcesShown (back-computed tableT 0x800 0x1400 (omega arith) 0x50A0))
+    (λ c κs. ap sourcesShown (back-computed tableT 0x800 0x1400 (omega arith) 0x5100))
+    (λ c. tt))

@@ -1,0 +1,25 @@
+-- Each translation is what the definition computes to.
+-- Assumes nothing.
+use mathlib.Core.Path.{refl}
+use Rattle.lent.specs.Le.{leAt}
+use Rattle.lent.specs.Table.{listed, shapeFault}
+use Rattle.lent.specs.Order.{risingAfter, rising, tableFault}
+use Rattle.omap.specs.Records.{records, orElse, lastAt, moved, single}
+use Rattle.omap.specs.Lookup.{lookupSpec}
+use Rattle.cases.proofs.lookups.all.Statement.{statement}
+use Rattle.cases.proofs.lookups.all.Tie as tie
+
+pub all-spec : {M : Type 1} → statement M
+unfolding leAt listed shapeFault risingAfter rising tableFault records orElse lastAt moved single lookupSpec
+all-spec =
+    tie.close
+    (tie.spec
+    (λ c κs. refl)
+    (λ c κs. refl)
+    (λ c κs. refl)
+    (λ c κs. refl)
+    (λ c κs. refl)
+    (λ c κs. refl)
+    (λ c κs. refl)
+    (λ c κs. refl)
+    (λ c. tt))

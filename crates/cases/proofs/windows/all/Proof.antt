@@ -1,0 +1,22 @@
+-- Each window, and each output, is what the definitions compute to.
+-- Assumes nothing.
+use mathlib.Core.Path.{refl}
+use Rattle.lent.specs.Le.{leAt}
+use Rattle.lent.specs.Table.{listed, shapeFault}
+use Rattle.lent.specs.Order.{risingAfter, rising, tableFault}
+use Rattle.omap.specs.Records.{records}
+use Rattle.omap.specs.Window.{nextOf, pieceOf, put, pieces, windowPieces}
+use Rattle.omap.specs.Output.{shown, fits, allFit, flat, roomFor, windowSpec, windowOut}
+use Rattle.cases.proofs.windows.all.Statement.{statement}
+use Rattle.cases.proofs.windows.all.Tie as tie
+
+pub all-spec : {M : Type 1} → statement M
+unfolding leAt listed shapeFault risingAfter rising tableFault records nextOf pieceOf put pieces shown fits allFit flat roomFor windowSpec windowOut
+all-spec =
+    tie.close
+    (tie.spec
+    (λ c κs. (refl, refl))
+    (λ c κs. (refl, refl))
+    (λ c κs. (refl, refl))
+    (λ c κs. (refl, refl))
+    (λ c. tt))

@@ -1,0 +1,32 @@
+// Single translations.
+ghost use mathlib.Core.Path.{_≡_};
+ghost use mathlib.Core.Bool.{true};
+ghost use Rattle.omap.specs.Lookup.{lookupSpec};
+ghost use Rattle.gillacorn.specs.Code.{valueOf};
+use crate::told::is;
+use gillacorn::tables::gillacorn_lookup;
+
+// The translation of an address by a present table.
+fn translates(table: &[u8], address: u32, code: u32, value: u32)
+    requires { ⌜ valueOf (lookupSpec true (now table) address) ≡ record { code = code; value = value } ⌝ }
+{
+    is(gillacorn_lookup(true, table, address), code, value);
+}
+
+pub fn all() {
+    // T: 1000→5000, 1100→0, 1200→4000, 1300→5080
+    let t = b"\x00\x10\0\0\x00\x50\0\0\
+        \x00\x11\0\0\x00\x00\0\0\
+        \x00\x12\0\0\x00\x40\0\0\
+        \x00\x13\0\0\x80\x50\0\0";
+    translates(t, 0xFFF, 255, 0);
+    translates(t, 0x1000, 0, 0x5000);
+    translates(t, 0x10FF, 0, 0x50FF);
+    translates(t, 0x1100, 255, 0);
+    translates(t, 0x1250, 0, 0x4050);
+    translates(t, 0x2000, 0, 0x5D80);
+    // 10→FFFFFFF0
+    let high = b"\x10\0\0\0\xF0\xFF\xFF\xFF";
+    translates(high, 0x1F, 0, 0xFFFFFFFF);
+    translates(high, 0x20, 4, 0);
+}

@@ -1,0 +1,62 @@
+-- Safe: the lent part of the output has the places that were asked.
+use lib.ListN.{length-take}
+use native.Mathlib.Omega.{arith}
+use borrow.Author.Needs.{needs}
+use Rattle.replay.proofs.tables.list.Statement.{statement}
+use Rattle.replay.proofs.tables.list.Tie as tie
+use Rattle.replay.proofs.tables.list.Reads as reads
+use Rattle.replay.proofs.tables.list.Lts as lts
+use Rattle.replay.proofs.input.after.Reads as after-reads
+use Rattle.replay.proofs.input.table_at.Reads as table-at-reads
+use Rattle.replay.proofs.input.u16_at.Reads as u16-at-reads
+use Rattle.replay.proofs.tables.drained.Reads as drained-reads
+use Rattle.replay.proofs.told.from.Reads as from-reads
+
+table-at-requires : tie.Need-table-at-requires
+table-at-requires c κs = search needs
+
+after-requires : tie.Need-after-requires
+after-requires c κs = search needs
+
+u16-at-requires : tie.Need-u16-at-requires
+u16-at-requires c κs = search needs
+
+cast-records : tie.Need-cast-records
+cast-records c = search needs
+
+from-requires : tie.Need-from-requires
+from-requires c κs = search needs
+
+returns : tie.Need-returns
+returns c = search needs
+
+mul-places : tie.Need-mul-places
+mul-places c = search needs
+
+array-borrow-prefix-out : tie.Need-array-borrow-prefix-out
+array-borrow-prefix-out c = search needs
+
+slice-aggregate-drained : tie.Need-slice-aggregate-drained
+slice-aggregate-drained c = simp length-take (omega arith)
+
+drained-requires : tie.Need-drained-requires
+drained-requires c κs = search needs
+
+returns-2 : tie.Need-returns-2
+returns-2 c = search needs
+
+pub list-spec : {M : Type 1} → statement M
+list-spec =
+    tie.close
+    (tie.spec
+    table-at-requires
+    after-requires
+    u16-at-requires
+    cast-records
+    from-requires
+    returns
+    mul-places
+    array-borrow-prefix-out
+    slice-aggregate-drained
+    drained-requires
+    returns-2)

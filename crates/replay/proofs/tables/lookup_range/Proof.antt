@@ -1,0 +1,51 @@
+-- Safe: the lent part of the output has the places that were asked.
+use lib.ListN.{length-take}
+use native.Mathlib.Omega.{arith}
+use borrow.Author.Needs.{needs}
+use Rattle.replay.proofs.tables.lookup_range.Statement.{statement}
+use Rattle.replay.proofs.tables.lookup_range.Tie as tie
+
+table-at-requires : tie.Need-table-at-requires
+table-at-requires c κs = search needs
+
+after-requires : tie.Need-after-requires
+after-requires c κs = search needs
+
+u16-at-requires : tie.Need-u16-at-requires
+u16-at-requires c κs = search needs
+
+cast-places : tie.Need-cast-places
+cast-places c = search needs
+
+from-requires : tie.Need-from-requires
+from-requires c κs = search needs
+
+returns : tie.Need-returns
+returns c = search needs
+
+array-borrow-prefix-out : tie.Need-array-borrow-prefix-out
+array-borrow-prefix-out c = search needs
+
+slice-aggregate-ranged : tie.Need-slice-aggregate-ranged
+slice-aggregate-ranged c = simp length-take (omega arith)
+
+ranged-requires : tie.Need-ranged-requires
+ranged-requires c κs = search needs
+
+returns-2 : tie.Need-returns-2
+returns-2 c = search needs
+
+pub lookup-range-spec : {M : Type 1} → statement M
+lookup-range-spec =
+    tie.close
+    (tie.spec
+    table-at-requires
+    after-requires
+    u16-at-requires
+    cast-places
+    from-requires
+    returns
+    array-borrow-prefix-out
+    slice-aggregate-ranged
+    ranged-requires
+    returns-2)

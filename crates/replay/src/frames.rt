@@ -1,0 +1,96 @@
+// Frames: operations 15 to 19.
+use crate::input::after;
+use crate::input::bytes;
+use crate::input::present_at;
+use crate::input::table_at;
+use crate::input::u32_at;
+use crate::told::Told;
+use crate::told::bits;
+use framedata::FrameCursor;
+use gillacorn::frames::FrameShown;
+use gillacorn::frames::gillacorn_frame_next;
+use gillacorn::frames::gillacorn_frames_at;
+use gillacorn::frames::gillacorn_frames_empty;
+use gillacorn::frames::gillacorn_new_frame;
+use gillacorn::frames::gillacorn_old_frame;
+
+pub fn old_frame(s: &[u8]) -> Told {
+    let table = present_at(s, 1);
+    let at = table.to;
+    let ours = gillacorn_old_frame(bytes(s, table), u32_at(s, at) as usize);
+    let told = crate::told::from(after(at, 4)).small(s, ours.code);
+    frame_told(s, told, ours.frame)
+}
+
+pub fn new_frame(s: &[u8]) -> Told {
+    let table = present_at(s, 1);
+    let at = table.to;
+    let ours = gillacorn_new_frame(bytes(s, table), u32_at(s, at) as usize);
+    let told = crate::told::from(after(at, 4)).small(s, ours.code);
+    frame_told(s, told, ours.frame)
+}
+
+pub fn next(s: &[u8]) -> Told {
+    let old = table_at(s, 1);
+    let new = table_at(s, old.to);
+    let at = new.to;
+    let cursor = FrameCursor {
+        old_index: u32_at(s, at) as usize,
+        new_index: u32_at(s, after(at, 4)) as usize,
+    };
+    let ours = gillacorn_frame_next(
+        cursor,
+        old.present,
+        bytes(s, old),
+        new.present,
+        bytes(s, new),
+    );
+    let told = crate::told::from(after(at, 8)).small(s, ours.code);
+    let told = frame_told(s, told, ours.frame);
+    told.place(s, ours.cursor.old_index)
+        .place(s, ours.cursor.new_index)
+}
+
+pub fn from_address(s: &[u8]) -> Told {
+    let old = table_at(s, 1);
+    let new = table_at(s, old.to);
+    let at = new.to;
+    let address = u32_at(s, at);
+    let ours = gillacorn_frames_at(
+        address,
+        old.present,
+        bytes(s, old),
+        new.present,
+        bytes(s, new),
+    );
+    let told = crate::told::from(after(at, 4)).small(s, ours.code);
+    told.place(s, ours.cursor.old_index)
+        .place(s, ours.cursor.new_index)
+}
+
+pub fn empty(s: &[u8]) -> Told {
+    let old = table_at(s, 1);
+    let new = table_at(s, old.to);
+    let ours = gillacorn_frames_empty(old.present, bytes(s, old), new.present, bytes(s, new));
+    crate::told::from(new.to)
+        .small(s, ours.code)
+        .u32(s, ours.value)
+}
+
+fn frame_told(s: &[u8], told: Told, ours: FrameShown) -> Told {
+    let marks = [
+        ours.has_structured_eh,
+        ours.has_cpp_eh,
+        ours.is_function_start,
+        ours.uses_base_pointer,
+        ours.has_max_stack_size,
+        ours.has_program,
+    ];
+    let told = told.small(s, ours.ty)
+        .u32(s, ours.code_start)
+        .u32(s, ours.code_size);
+    let told = told.u32(s, ours.locals_size).u32(s, ours.params_size);
+    let told = told.u16(s, ours.prolog_size).u16(s, ours.saved_regs_size);
+    let told = told.small(s, bits(&marks));
+    told.u32(s, ours.max_stack_size).u32(s, ours.program)
+}

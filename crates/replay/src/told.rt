@@ -1,0 +1,77 @@
+// Comparing the answer in a case with ours, number by number.
+use crate::input::after;
+use crate::input::u8_at;
+use crate::input::u16_at;
+use crate::input::u32_at;
+
+// How far a case has been read, and whether all that was told up to there is ours.
+pub struct Told {
+    pub at: usize,
+    pub same: bool,
+}
+
+// The answer begins here, and nothing of it is read.
+pub fn from(at: usize) -> Told {
+    Told { at, same: true }
+}
+
+impl Told {
+    fn next(self, count: usize, is_ours: bool) -> Told {
+        let at = after(self.at, count);
+        if is_ours {
+            return Told {
+                at,
+                same: self.same,
+            };
+        }
+        Told { at, same: false }
+    }
+
+    pub fn u8(self, s: &[u8], ours: u8) -> Told {
+        let theirs = u8_at(s, self.at);
+        self.next(1, theirs == ours)
+    }
+
+    pub fn u16(self, s: &[u8], ours: u16) -> Told {
+        let theirs = u16_at(s, self.at);
+        self.next(2, theirs == ours)
+    }
+
+    pub fn u32(self, s: &[u8], ours: u32) -> Told {
+        let theirs = u32_at(s, self.at);
+        self.next(4, theirs == ours)
+    }
+
+    // A code or a type, which has one byte in a case.
+    pub fn small(self, s: &[u8], ours: u32) -> Told {
+        let theirs = u8_at(s, self.at) as u32;
+        self.next(1, theirs == ours)
+    }
+
+    // A length, which has one byte in a case.
+    pub fn length(self, s: &[u8], ours: usize) -> Told {
+        let theirs = u8_at(s, self.at) as usize;
+        self.next(1, theirs == ours)
+    }
+
+    // A place or a count, which has 32 bits in a case.
+    pub fn place(self, s: &[u8], ours: usize) -> Told {
+        let theirs = u32_at(s, self.at) as usize;
+        self.next(4, theirs == ours)
+    }
+}
+
+// Marks as the bits of a number, the first as the lowest.
+pub fn bits(marks: &[bool]) -> u32 {
+    let mut number = 0u32;
+    let mut bit = 1u32;
+    let mut i = 0;
+    while i < marks.len() {
+        if marks[i] {
+            number |= bit;
+        }
+        bit <<= 1;
+        i += 1;
+    }
+    number
+}
