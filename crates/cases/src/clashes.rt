@@ -2,7 +2,7 @@
 ghost use mathlib.Core.Path.{_≡_};
 ghost use Rattle.clash.specs.Clash.{clashSpec, backSpec};
 ghost use Rattle.gillacorn.specs.Clashes.{pairOf, sourcesShown};
-
+use crate::told::T;
 use check::expect;
 use gillacorn::clashes::gillacorn_clash;
 use gillacorn::clashes::gillacorn_way_back;
@@ -29,11 +29,8 @@ fn goes_back(table: &[u8], a: u32, b: u32, t: u32, sources: u32, first: u32, sec
 }
 
 pub fn all() {
-    // T: 1000→5000, 1100→0, 1200→4000, 1300→5080
-    let t = b"\x00\x10\0\0\x00\x50\0\0\
-        \x00\x11\0\0\x00\x00\0\0\
-        \x00\x12\0\0\x00\x40\0\0\
-        \x00\x13\0\0\x80\x50\0\0";
+    let table = T;
+    let t: &[u8] = &table;
     clashes(t, 0x800, 0x1400, 0, 0x1080, 0x1300);
     clashes(t, 0x1000, 0x1300, 255, 0, 0);
     goes_back(t, 0x800, 0x1400, 0x50A0, 2, 0x10A0, 0x1320);

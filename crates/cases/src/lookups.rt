@@ -3,6 +3,7 @@ ghost use mathlib.Core.Path.{_≡_};
 ghost use mathlib.Core.Bool.{true};
 ghost use Rattle.omap.specs.Lookup.{lookupSpec};
 ghost use Rattle.gillacorn.specs.Code.{valueOf};
+use crate::told::T;
 use crate::told::is;
 use gillacorn::tables::gillacorn_lookup;
 
@@ -14,11 +15,8 @@ fn translates(table: &[u8], address: u32, code: u32, value: u32)
 }
 
 pub fn all() {
-    // T: 1000→5000, 1100→0, 1200→4000, 1300→5080
-    let t = b"\x00\x10\0\0\x00\x50\0\0\
-        \x00\x11\0\0\x00\x00\0\0\
-        \x00\x12\0\0\x00\x40\0\0\
-        \x00\x13\0\0\x80\x50\0\0";
+    let table = T;
+    let t: &[u8] = &table;
     translates(t, 0xFFF, 255, 0);
     translates(t, 0x1000, 0, 0x5000);
     translates(t, 0x10FF, 0, 0x50FF);

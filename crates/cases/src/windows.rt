@@ -5,6 +5,7 @@ ghost use mathlib.Core.Bool.{true};
 ghost use Rattle.omap.specs.Output.{windowSpec, windowOut};
 ghost use Rattle.gillacorn.specs.Tables.{piecesOf};
 ghost use Rattle.cases.specs.Lent.{nines};
+use crate::told::T;
 use check::expect;
 use gillacorn::tables::gillacorn_lookup_range;
 
@@ -39,11 +40,8 @@ fn shows(table: &[u8], a: u32, b: u32, code: u32, pieces: usize, left: &[u32; 7]
 }
 
 pub fn all() {
-    // T: 1000→5000, 1100→0, 1200→4000, 1300→5080
-    let t = b"\x00\x10\0\0\x00\x50\0\0\
-        \x00\x11\0\0\x00\x00\0\0\
-        \x00\x12\0\0\x00\x40\0\0\
-        \x00\x13\0\0\x80\x50\0\0";
+    let table = T;
+    let t: &[u8] = &table;
     let three = THREE;
     shows(t, 0x800, 0x1400, 0, 3, &three);
     // 10→FFFFFFF0

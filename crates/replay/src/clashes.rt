@@ -23,5 +23,7 @@ pub fn way_back(s: &[u8]) -> Told {
     let t = u32_at(s, after(at, 8));
     let ours = gillacorn_way_back(bytes(s, table), u32_at(s, at), b, t);
     let told = crate::told::from(after(at, 12)).small(s, ours.code);
-    told.u32(s, ours.sources).u32(s, ours.first).u32(s, ours.second)
+    told.u32(s, ours.sources)
+        .u32(s, ours.first)
+        .u32(s, ours.second)
 }

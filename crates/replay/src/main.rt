@@ -6,6 +6,7 @@ mod clashes;
 mod frames;
 mod headers;
 mod input;
+mod lists;
 mod report;
 mod tables;
 mod told;
@@ -38,7 +39,7 @@ fn compared(operation: u8, s: &[u8]) -> Told {
         7 => tables::lookup_range(s),
         8 => tables::cursor_start(s),
         9 => tables::cursor_step(s),
-        10 => tables::list(s),
+        10 => lists::list(s),
         11 => clashes::clash(s),
         12 => clashes::way_back(s),
         13 => addresses::section_offset(s),

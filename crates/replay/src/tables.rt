@@ -8,14 +8,13 @@ use crate::input::table_at;
 use crate::input::u16_at;
 use crate::input::u32_at;
 use crate::told::Told;
+use gillacorn::tables::Pieces;
 use gillacorn::tables::gillacorn_cursor_start;
 use gillacorn::tables::gillacorn_cursor_step;
 use gillacorn::tables::gillacorn_lookup;
 use gillacorn::tables::gillacorn_lookup_range;
 use gillacorn::tables::gillacorn_record_at;
-use gillacorn::tables::pieces_of;
 use omap::cursor::Cursor;
-use ranges::reader::drain;
 
 // The places that an output of a case has at most.
 pub const MOST: usize = 128;
@@ -54,35 +53,13 @@ fn ranged(s: &[u8], table: Table, out: &mut [u32]) -> Told {
     let b = u32_at(s, after(at, 4));
     mark(out);
     let ours = gillacorn_lookup_range(table.present, bytes(s, table), a, b, out);
-    let told = crate::told::from(after(at, 10))
-        .small(s, ours.code)
-        .place(s, ours.pieces);
-    written(s, told, out)
+    window_told(s, at, ours, out)
 }
 
-// The list of pieces, through the reader that writes it as pairs: a program that holds a list of
-// records of its own takes a proof by hand.
-pub fn list(s: &[u8]) -> Told {
-    let table = table_at(s, 1);
-    let records = u16_at(s, after(table.to, 8)) as usize;
-    if MOST / 2 < records {
-        return crate::told::from(FAR);
-    }
-    let mut out = [0u32; MOST];
-    let places = 2 * records;
-    drained(s, table, &mut out[..places])
-}
-
-fn drained(s: &[u8], table: Table, out: &mut [u32]) -> Told {
-    let at = table.to;
-    let a = u32_at(s, at);
-    let b = u32_at(s, after(at, 4));
-    mark(out);
-    let ours = pieces_of(drain(table.present, bytes(s, table), a, b, out));
-    let told = crate::told::from(after(at, 10))
-        .small(s, ours.code)
-        .place(s, ours.pieces);
-    written(s, told, out)
+// The answer about the window that is asked at `at`, and the output at exit.
+pub fn window_told(s: &[u8], at: usize, ours: Pieces, out: &[u32]) -> Told {
+    let told = crate::told::from(after(at, 10)).small(s, ours.code);
+    written(s, told.place(s, ours.pieces), out)
 }
 
 // What stands in an output at entry: A5A5A500h and the place.
@@ -97,7 +74,7 @@ pub fn mark(out: &mut [u32]) {
 }
 
 // What stands in an output at exit.
-pub fn written(s: &[u8], told: Told, out: &[u32]) -> Told {
+fn written(s: &[u8], told: Told, out: &[u32]) -> Told {
     let mut told = told;
     let mut i = 0;
     while i < out.len() {

@@ -2,6 +2,7 @@
 -- Assumes nothing.
 use mathlib.Core.Path.{ap}
 use native.Mathlib.Omega.{arith}
+use borrow.Author.Needs.{needs}
 use Rattle.lent.specs.Le.{leAt}
 use Rattle.lent.specs.Table.{listed, shapeFault}
 use Rattle.lent.specs.Order.{risingAfter, rising, tableFault}
@@ -21,6 +22,7 @@ unfolding leAt listed shapeFault risingAfter rising tableFault records orElse ne
 all-spec =
     tie.close
     (tie.spec
+    (λ c. search needs)
     (λ c κs. ap pairOf (clash-computed tableT 0x800 0x1400 (omega arith)))
     (λ c κs. ap pairOf (clash-computed tableT 0x1000 0x1300 (omega arith)))
     (λ c κs. ap sourcesShown (back-computed tableT 0x800 0x1400 (omega arith) 0x50A0))

@@ -1,6 +1,7 @@
 -- Each translation is what the definition computes to.
 -- Assumes nothing.
 use mathlib.Core.Path.{refl}
+use borrow.Author.Needs.{needs}
 use Rattle.lent.specs.Le.{leAt}
 use Rattle.lent.specs.Table.{listed, shapeFault}
 use Rattle.lent.specs.Order.{risingAfter, rising, tableFault}
@@ -14,6 +15,7 @@ unfolding leAt listed shapeFault risingAfter rising tableFault records orElse la
 all-spec =
     tie.close
     (tie.spec
+    (λ c. search needs)
     (λ c κs. refl)
     (λ c κs. refl)
     (λ c κs. refl)

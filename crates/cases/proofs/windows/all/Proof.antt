@@ -1,6 +1,7 @@
 -- Each window, and each output, is what the definitions compute to.
 -- Assumes nothing.
 use mathlib.Core.Path.{refl}
+use borrow.Author.Needs.{needs}
 use Rattle.lent.specs.Le.{leAt}
 use Rattle.lent.specs.Table.{listed, shapeFault}
 use Rattle.lent.specs.Order.{risingAfter, rising, tableFault}
@@ -15,6 +16,7 @@ unfolding leAt listed shapeFault risingAfter rising tableFault records nextOf pi
 all-spec =
     tie.close
     (tie.spec
+    (λ c. search needs)
     (λ c κs. (refl, refl))
     (λ c κs. (refl, refl))
     (λ c κs. (refl, refl))

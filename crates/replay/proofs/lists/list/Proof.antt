@@ -1,16 +1,9 @@
--- Safe: the lent part of the output has the places that were asked.
+-- Safe: the lent part of the output has two places for each record that was asked.
 use lib.ListN.{length-take}
 use native.Mathlib.Omega.{arith}
 use borrow.Author.Needs.{needs}
-use Rattle.replay.proofs.tables.list.Statement.{statement}
-use Rattle.replay.proofs.tables.list.Tie as tie
-use Rattle.replay.proofs.tables.list.Reads as reads
-use Rattle.replay.proofs.tables.list.Lts as lts
-use Rattle.replay.proofs.input.after.Reads as after-reads
-use Rattle.replay.proofs.input.table_at.Reads as table-at-reads
-use Rattle.replay.proofs.input.u16_at.Reads as u16-at-reads
-use Rattle.replay.proofs.tables.drained.Reads as drained-reads
-use Rattle.replay.proofs.told.from.Reads as from-reads
+use Rattle.replay.proofs.lists.list.Statement.{statement}
+use Rattle.replay.proofs.lists.list.Tie as tie
 
 table-at-requires : tie.Need-table-at-requires
 table-at-requires c κs = search needs
