@@ -28,7 +28,7 @@ fn goes_back(table: &[u8], a: u32, b: u32, t: u32, sources: u32, first: u32, sec
     expect(told.second == second);
 }
 
-pub fn all() {
+pub(crate) fn all() {
     let table = T;
     let t: &[u8] = &table;
     clashes(t, 0x800, 0x1400, 0, 0x1080, 0x1300);

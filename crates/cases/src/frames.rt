@@ -50,7 +50,7 @@ fn begins(old: &[u8], new: &[u8], address: u32, i: usize, j: usize)
     expect(cursor.new_index == j);
 }
 
-pub fn merged() {
+pub(crate) fn merged() {
     // new at 100, 200, old at 100, 180: new 100, old 180, new 200, and the end
     let old = b"\x00\x01\0\0\0\0\0\0\0\0\0\0\0\0\0\0\x80\x01\0\0\0\0\0\0\0\0\0\0\0\0\0\0";
     let new = b"\x00\x01\0\0\0\0\0\0\0\0\0\0\0\0\0\0\0\0\0\0\0\0\0\0\0\0\0\0\0\0\0\0\
@@ -68,7 +68,7 @@ pub fn merged() {
     yields(old, new, 1, 2, 255, 0, 0, 1, 2);
 }
 
-pub fn begun() {
+pub(crate) fn begun() {
     // 100 size 40, then 200, as old frames and as new ones: at 150 with 200, at 13F with 100
     let none = b"";
     let old = b"\x00\x01\0\0\x40\0\0\0\0\0\0\0\0\0\0\0\x00\x02\0\0\0\0\0\0\0\0\0\0\0\0\0\0";
@@ -85,7 +85,7 @@ pub fn begun() {
 }
 
 // Attributes C305: Standard, prolog 5, saved 12, SEH, no base pointer.
-pub fn attributes() {
+pub(crate) fn attributes() {
     let told = gillacorn_old_frame(b"\0\0\0\0\0\0\0\0\0\0\0\0\0\0\x05\xC3", 0);
     let frame = told.frame;
     expect(told.code == 0);

@@ -14,7 +14,7 @@ fn translates(table: &[u8], address: u32, code: u32, value: u32)
     is(gillacorn_lookup(true, table, address), code, value);
 }
 
-pub fn all() {
+pub(crate) fn all() {
     let table = T;
     let t: &[u8] = &table;
     translates(t, 0xFFF, 255, 0);

@@ -29,7 +29,7 @@ fn lies(table: &[u8], section: u16, offset: u32, code: u32, value: u32)
     );
 }
 
-pub fn all() {
+pub(crate) fn all() {
     // 1000 size 200, 2000 size 400
     let table = b"\0\0\0\0\0\0\0\0\0\0\0\0\x00\x10\0\0\x00\x02\0\0\
         \0\0\0\0\0\0\0\0\0\0\0\0\0\0\0\0\0\0\0\0\

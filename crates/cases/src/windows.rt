@@ -13,7 +13,7 @@ use gillacorn::tables::gillacorn_lookup_range;
 const THREE: [u32; 7] = [0x5000, 0x5100, 0x4000, 0x4100, 0x5080, 0x5180, 9];
 
 // They have 300 addresses.
-pub fn addresses() {
+pub(crate) fn addresses() {
     let p = THREE;
     expect(p[1] - p[0] + (p[3] - p[2]) + (p[5] - p[4]) == 0x300);
 }
@@ -39,7 +39,7 @@ fn shows(table: &[u8], a: u32, b: u32, code: u32, pieces: usize, left: &[u32; 7]
     same(&out, left);
 }
 
-pub fn all() {
+pub(crate) fn all() {
     let table = T;
     let t: &[u8] = &table;
     let three = THREE;

@@ -24,14 +24,14 @@ use gillacorn::addresses::gillacorn_section_offset;
 use gillacorn::addresses::gillacorn_virtual_address;
 use gillacorn::code::Value;
 
-pub fn section_offset(s: &[u8]) -> Told {
+pub(crate) fn section_offset(s: &[u8]) -> Told {
     let table = present_at(s, 1);
     let at = table.to;
     let ours = gillacorn_section_offset(bytes(s, table), u32_at(s, at));
     offset_told(s, after(at, 4), ours)
 }
 
-pub fn virtual_address(s: &[u8]) -> Told {
+pub(crate) fn virtual_address(s: &[u8]) -> Told {
     let table = present_at(s, 1);
     let at = table.to;
     let offset = u32_at(s, after(at, 2));
@@ -73,7 +73,7 @@ fn asked_in(s: &[u8]) -> Asked {
 }
 
 // An operation from 20 on, in the order of the face.
-pub fn conversion(s: &[u8], operation: u8) -> Told {
+pub(crate) fn conversion(s: &[u8], operation: u8) -> Told {
     let asked = asked_in(s);
     offset_told(s, asked.end, converted(s, asked, operation))
 }

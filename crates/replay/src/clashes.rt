@@ -7,7 +7,7 @@ use crate::told::Told;
 use gillacorn::clashes::gillacorn_clash;
 use gillacorn::clashes::gillacorn_way_back;
 
-pub fn clash(s: &[u8]) -> Told {
+pub(crate) fn clash(s: &[u8]) -> Told {
     let table = present_at(s, 1);
     let at = table.to;
     let b = u32_at(s, after(at, 4));
@@ -16,7 +16,7 @@ pub fn clash(s: &[u8]) -> Told {
     told.u32(s, ours.first).u32(s, ours.second)
 }
 
-pub fn way_back(s: &[u8]) -> Told {
+pub(crate) fn way_back(s: &[u8]) -> Told {
     let table = present_at(s, 1);
     let at = table.to;
     let b = u32_at(s, after(at, 4));

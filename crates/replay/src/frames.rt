@@ -14,7 +14,7 @@ use gillacorn::frames::gillacorn_frames_empty;
 use gillacorn::frames::gillacorn_new_frame;
 use gillacorn::frames::gillacorn_old_frame;
 
-pub fn old_frame(s: &[u8]) -> Told {
+pub(crate) fn old_frame(s: &[u8]) -> Told {
     let table = present_at(s, 1);
     let at = table.to;
     let ours = gillacorn_old_frame(bytes(s, table), u32_at(s, at) as usize);
@@ -22,7 +22,7 @@ pub fn old_frame(s: &[u8]) -> Told {
     frame_told(s, told, ours.frame)
 }
 
-pub fn new_frame(s: &[u8]) -> Told {
+pub(crate) fn new_frame(s: &[u8]) -> Told {
     let table = present_at(s, 1);
     let at = table.to;
     let ours = gillacorn_new_frame(bytes(s, table), u32_at(s, at) as usize);
@@ -30,7 +30,7 @@ pub fn new_frame(s: &[u8]) -> Told {
     frame_told(s, told, ours.frame)
 }
 
-pub fn next(s: &[u8]) -> Told {
+pub(crate) fn next(s: &[u8]) -> Told {
     let old = table_at(s, 1);
     let new = table_at(s, old.to);
     let at = new.to;
@@ -51,7 +51,7 @@ pub fn next(s: &[u8]) -> Told {
         .place(s, ours.cursor.new_index)
 }
 
-pub fn from_address(s: &[u8]) -> Told {
+pub(crate) fn from_address(s: &[u8]) -> Told {
     let old = table_at(s, 1);
     let new = table_at(s, old.to);
     let at = new.to;
@@ -68,7 +68,7 @@ pub fn from_address(s: &[u8]) -> Told {
         .place(s, ours.cursor.new_index)
 }
 
-pub fn empty(s: &[u8]) -> Told {
+pub(crate) fn empty(s: &[u8]) -> Told {
     let old = table_at(s, 1);
     let new = table_at(s, old.to);
     let ours = gillacorn_frames_empty(old.present, bytes(s, old), new.present, bytes(s, new));

@@ -11,7 +11,7 @@ use gillacorn::headers::gillacorn_characteristics;
 use gillacorn::headers::gillacorn_header;
 use gillacorn::headers::gillacorn_name_length;
 
-pub fn header(s: &[u8]) -> Told {
+pub(crate) fn header(s: &[u8]) -> Told {
     let table = present_at(s, 1);
     let at = table.to;
     let place = u32_at(s, at) as usize;
@@ -38,14 +38,14 @@ pub fn header(s: &[u8]) -> Told {
     told.u32(s, header.characteristics.0)
 }
 
-pub fn name(s: &[u8]) -> Told {
+pub(crate) fn name(s: &[u8]) -> Told {
     let table = present_at(s, 1);
     let at = table.to;
     let ours = gillacorn_name_length(bytes(s, table), u16_at(s, at));
     crate::told::from(after(at, 2)).length(s, ours)
 }
 
-pub fn flags(s: &[u8]) -> Told {
+pub(crate) fn flags(s: &[u8]) -> Told {
     let ours = gillacorn_characteristics(u32_at(s, 1));
     let marks = [
         ours.executable,
@@ -72,7 +72,7 @@ pub fn flags(s: &[u8]) -> Told {
     crate::told::from(5).u32(s, bits(&marks))
 }
 
-pub fn alignment(s: &[u8]) -> Told {
+pub(crate) fn alignment(s: &[u8]) -> Told {
     let ours = gillacorn_alignment(u32_at(s, 1));
     crate::told::from(5).small(s, ours.code).u32(s, ours.value)
 }

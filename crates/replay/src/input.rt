@@ -5,7 +5,7 @@
 pub const FAR: usize = 65536;
 
 // The place `count` bytes further.
-pub fn after(at: usize, count: usize) -> usize {
+pub(crate) fn after(at: usize, count: usize) -> usize {
     if at < FAR {
         if count < FAR - at {
             return at + count;
@@ -14,14 +14,14 @@ pub fn after(at: usize, count: usize) -> usize {
     FAR
 }
 
-pub fn u8_at(s: &[u8], at: usize) -> u8 {
+pub(crate) fn u8_at(s: &[u8], at: usize) -> u8 {
     if at < s.len() {
         return s[at];
     }
     0
 }
 
-pub fn u16_at(s: &[u8], at: usize) -> u16 {
+pub(crate) fn u16_at(s: &[u8], at: usize) -> u16 {
     if at < s.len() {
         if 2 <= s.len() - at {
             return lent::u16_at(s, at);
@@ -30,7 +30,7 @@ pub fn u16_at(s: &[u8], at: usize) -> u16 {
     0
 }
 
-pub fn u32_at(s: &[u8], at: usize) -> u32 {
+pub(crate) fn u32_at(s: &[u8], at: usize) -> u32 {
     if at < s.len() {
         if 4 <= s.len() - at {
             return lent::u32_at(s, at);
@@ -47,7 +47,7 @@ pub struct Table {
 }
 
 // The table at a place, present or absent.
-pub fn table_at(s: &[u8], at: usize) -> Table {
+pub(crate) fn table_at(s: &[u8], at: usize) -> Table {
     let mark = u8_at(s, at);
     let from = after(at, 3);
     let length = u16_at(s, after(at, 1)) as usize;
@@ -72,7 +72,7 @@ pub fn table_at(s: &[u8], at: usize) -> Table {
 }
 
 // The table at a place, for a question that is asked only of a present one.
-pub fn present_at(s: &[u8], at: usize) -> Table {
+pub(crate) fn present_at(s: &[u8], at: usize) -> Table {
     let table = table_at(s, at);
     if table.present {
         return table;
@@ -85,7 +85,7 @@ pub fn present_at(s: &[u8], at: usize) -> Table {
 }
 
 // The bytes of a table.
-pub fn bytes(s: &[u8], table: Table) -> &[u8] {
+pub(crate) fn bytes(s: &[u8], table: Table) -> &[u8] {
     let from = table.from;
     let to = table.to;
     if from <= to {

@@ -15,7 +15,7 @@ use crate::told::Told;
 use gillacorn::tables::pieces_of;
 use ranges::reader::drain;
 
-pub fn list(s: &[u8]) -> Told {
+pub(crate) fn list(s: &[u8]) -> Told {
     let table = table_at(s, 1);
     let records = u16_at(s, after(table.to, 8)) as usize;
     if MOST / 2 < records {

@@ -20,7 +20,7 @@ fn less(n: u64, k: u64) -> u64 {
 }
 
 // One case more of an operation, and of all.
-pub fn counted(counts: &mut [u64; 32], operation: u8) {
+pub(crate) fn counted(counts: &mut [u64; 32], operation: u8) {
     let i = operation as usize;
     if i < 32 {
         counts[0] = more(counts[0]);
@@ -29,7 +29,7 @@ pub fn counted(counts: &mut [u64; 32], operation: u8) {
 }
 
 // The case at `at` differs.
-pub fn differing(cases: &[u64; 32], agreed: &[u64; 32], at: usize, operation: u8) {
+pub(crate) fn differing(cases: &[u64; 32], agreed: &[u64; 32], at: usize, operation: u8) {
     if less(cases[0], agreed[0]) <= SHOWN {
         write_all(1, b"differs at ");
         print_decimal(1, at as u64);
@@ -39,14 +39,14 @@ pub fn differing(cases: &[u64; 32], agreed: &[u64; 32], at: usize, operation: u8
     }
 }
 
-pub fn bad(at: usize) {
+pub(crate) fn bad(at: usize) {
     write_all(1, b"bad case at ");
     print_decimal(1, at as u64);
     write_all(1, b"\n");
 }
 
 // A line for each operation, and the last line.
-pub fn all(cases: &[u64; 32], agreed: &[u64; 32]) {
+pub(crate) fn all(cases: &[u64; 32], agreed: &[u64; 32]) {
     lines(cases, agreed);
     last(cases[0], less(cases[0], agreed[0]));
 }

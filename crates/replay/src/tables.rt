@@ -19,7 +19,7 @@ use omap::cursor::Cursor;
 // The places that an output of a case has at most.
 pub const MOST: usize = 128;
 
-pub fn record_at(s: &[u8]) -> Told {
+pub(crate) fn record_at(s: &[u8]) -> Told {
     let table = present_at(s, 1);
     let at = table.to;
     let place = u32_at(s, at) as usize;
@@ -28,7 +28,7 @@ pub fn record_at(s: &[u8]) -> Told {
     told.u32(s, ours.source).u32(s, ours.target)
 }
 
-pub fn lookup(s: &[u8]) -> Told {
+pub(crate) fn lookup(s: &[u8]) -> Told {
     let table = table_at(s, 1);
     let at = table.to;
     let ours = gillacorn_lookup(table.present, bytes(s, table), u32_at(s, at));
@@ -37,7 +37,7 @@ pub fn lookup(s: &[u8]) -> Told {
         .u32(s, ours.value)
 }
 
-pub fn lookup_range(s: &[u8]) -> Told {
+pub(crate) fn lookup_range(s: &[u8]) -> Told {
     let table = table_at(s, 1);
     let places = u16_at(s, after(table.to, 8)) as usize;
     if MOST < places {
@@ -57,13 +57,13 @@ fn ranged(s: &[u8], table: Table, out: &mut [u32]) -> Told {
 }
 
 // The answer about the window that is asked at `at`, and the output at exit.
-pub fn window_told(s: &[u8], at: usize, ours: Pieces, out: &[u32]) -> Told {
+pub(crate) fn window_told(s: &[u8], at: usize, ours: Pieces, out: &[u32]) -> Told {
     let told = crate::told::from(after(at, 10)).small(s, ours.code);
     written(s, told.place(s, ours.pieces), out)
 }
 
 // What stands in an output at entry: A5A5A500h and the place.
-pub fn mark(out: &mut [u32]) {
+pub(crate) fn mark(out: &mut [u32]) {
     let mut value = 0xA5A5A500u32;
     let mut i = 0;
     while i < out.len() {
@@ -84,7 +84,7 @@ fn written(s: &[u8], told: Told, out: &[u32]) -> Told {
     told
 }
 
-pub fn cursor_start(s: &[u8]) -> Told {
+pub(crate) fn cursor_start(s: &[u8]) -> Told {
     let table = table_at(s, 1);
     let at = table.to;
     let b = u32_at(s, after(at, 4));
@@ -93,7 +93,7 @@ pub fn cursor_start(s: &[u8]) -> Told {
     cursor_told(s, told, ours.cursor)
 }
 
-pub fn cursor_step(s: &[u8]) -> Told {
+pub(crate) fn cursor_step(s: &[u8]) -> Told {
     let table = table_at(s, 1);
     let at = table.to;
     let cursor = Cursor {

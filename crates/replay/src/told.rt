@@ -11,7 +11,7 @@ pub struct Told {
 }
 
 // The answer begins here, and nothing of it is read.
-pub fn from(at: usize) -> Told {
+pub(crate) fn from(at: usize) -> Told {
     Told { at, same: true }
 }
 
@@ -27,42 +27,42 @@ impl Told {
         Told { at, same: false }
     }
 
-    pub fn u8(self, s: &[u8], ours: u8) -> Told {
+    pub(crate) fn u8(self, s: &[u8], ours: u8) -> Told {
         let theirs = u8_at(s, self.at);
         self.next(1, theirs == ours)
     }
 
-    pub fn u16(self, s: &[u8], ours: u16) -> Told {
+    pub(crate) fn u16(self, s: &[u8], ours: u16) -> Told {
         let theirs = u16_at(s, self.at);
         self.next(2, theirs == ours)
     }
 
-    pub fn u32(self, s: &[u8], ours: u32) -> Told {
+    pub(crate) fn u32(self, s: &[u8], ours: u32) -> Told {
         let theirs = u32_at(s, self.at);
         self.next(4, theirs == ours)
     }
 
     // A code or a type, which has one byte in a case.
-    pub fn small(self, s: &[u8], ours: u32) -> Told {
+    pub(crate) fn small(self, s: &[u8], ours: u32) -> Told {
         let theirs = u8_at(s, self.at) as u32;
         self.next(1, theirs == ours)
     }
 
     // A length, which has one byte in a case.
-    pub fn length(self, s: &[u8], ours: usize) -> Told {
+    pub(crate) fn length(self, s: &[u8], ours: usize) -> Told {
         let theirs = u8_at(s, self.at) as usize;
         self.next(1, theirs == ours)
     }
 
     // A place or a count, which has 32 bits in a case.
-    pub fn place(self, s: &[u8], ours: usize) -> Told {
+    pub(crate) fn place(self, s: &[u8], ours: usize) -> Told {
         let theirs = u32_at(s, self.at) as usize;
         self.next(4, theirs == ours)
     }
 }
 
 // Marks as the bits of a number, the first as the lowest.
-pub fn bits(marks: &[bool]) -> u32 {
+pub(crate) fn bits(marks: &[bool]) -> u32 {
     let mut number = 0u32;
     let mut bit = 1u32;
     let mut i = 0;

@@ -105,7 +105,7 @@ fn letters(f: FrameData, out: &mut [u8], at: usize) -> usize
 }
 
 // A frame on a line.
-pub fn frame_line(f: FrameData, out: &mut [u8], at: usize) -> usize
+pub(crate) fn frame_line(f: FrameData, out: &mut [u8], at: usize) -> usize
     requires { ⌜ at + 80 ≤ length (now out) ⌝ }
     ensures { λ r. ⌜ Wrote (frameLine (toldFrame f)) (now (out .entry)) at r (now (out .exit)) ⌝ }
     ensures { λ r. ⌜ r ≤ at + 80 ⌝ }

@@ -36,7 +36,7 @@ fn digits(n: u64, base: u64, width: usize, out: &mut [u8], at: usize) -> usize
 }
 
 // How many decimal digits n has.
-pub fn places(n: usize) -> usize
+pub(crate) fn places(n: usize) -> usize
     ensures { λ r. ⌜ r ≡ places n ⌝ }
 {
     let mut left = n;
@@ -49,7 +49,7 @@ pub fn places(n: usize) -> usize
 }
 
 // The bytes of a word.
-pub fn put(word: &[u8], out: &mut [u8], at: usize) -> usize
+pub(crate) fn put(word: &[u8], out: &mut [u8], at: usize) -> usize
     requires { ⌜ at + length (now word) ≤ length (now out) ⌝ }
     ensures { λ r. ⌜ Wrote (now (word .entry)) (now (out .entry)) at r (now (out .exit)) ⌝ }
 {
@@ -62,7 +62,7 @@ pub fn put(word: &[u8], out: &mut [u8], at: usize) -> usize
 }
 
 // A number as `width` hex digits, and what stands after them.
-pub fn hex(n: u64, width: usize, after: &[u8], out: &mut [u8], at: usize) -> usize
+pub(crate) fn hex(n: u64, width: usize, after: &[u8], out: &mut [u8], at: usize) -> usize
     requires { ⌜ at + (width + length (now after)) ≤ length (now out) ⌝ }
     ensures { λ r. ⌜ Wrote (hex width n ++ now (after .entry)) (now (out .entry)) at r (now (out .exit)) ⌝ }
     ensures { λ r. ⌜ r ≡ at + (width + length (now (after .entry))) ⌝ }
@@ -72,7 +72,7 @@ pub fn hex(n: u64, width: usize, after: &[u8], out: &mut [u8], at: usize) -> usi
 }
 
 // A word, a number in decimal, and a line feed.
-pub fn numbered(word: &[u8], n: usize, out: &mut [u8], at: usize) -> usize
+pub(crate) fn numbered(word: &[u8], n: usize, out: &mut [u8], at: usize) -> usize
     requires { ⌜ at + (length (now word) + (places n + 1)) ≤ length (now out) ⌝ }
     ensures { λ r. ⌜ Wrote (numbered (now (word .entry)) n) (now (out .entry)) at r (now (out .exit)) ⌝ }
 {
@@ -82,7 +82,7 @@ pub fn numbered(word: &[u8], n: usize, out: &mut [u8], at: usize) -> usize
 }
 
 // The paper's number of a table's refusal.
-pub fn number(why: Refusal) -> usize
+pub(crate) fn number(why: Refusal) -> usize
     ensures { λ r. ⌜ r ≡ number why ⌝ }
 {
     match why {
@@ -93,7 +93,7 @@ pub fn number(why: Refusal) -> usize
 }
 
 // A refusal's line, alone.
-pub fn refused(n: usize, out: &mut [u8]) -> usize
+pub(crate) fn refused(n: usize, out: &mut [u8]) -> usize
     requires { ⌜ (n < 10) × (10 ≤ length (now out)) ⌝ }
     ensures { λ r. ⌜ Wrote (refusedText n) (now (out .entry)) 0 r (now (out .exit)) ⌝ }
 {
