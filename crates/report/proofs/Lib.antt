@@ -4,4 +4,5 @@ pub mod WindowCase
 pub mod Columns
 pub mod Yields
 pub mod Listing
+pub mod FramesCase
 pub mod Determined

@@ -1,21 +1,20 @@
 -- The text of a window: its length, its lines from the pairs that the window's call writes; and that refusal 5 is never met.
 -- Assumes nothing.
-use mathlib.Core.Path.{_≡_, refl, sym, ap, _∙_, subst}
-use Prim.Native.Nat.{ℕ, zero, suc, _+_, _-_, _*_, _/_, _≤_, _<_}
-use native.Mathlib.Numerals.{add-one, add-two}
+use mathlib.Core.Path.{_≡_, refl, ap, _∙_}
+use Prim.Native.Nat.{ℕ, suc, _+_, _*_, _/_, _≤_, _<_}
 use native.Mathlib.Omega.{arith}
 use mathlib.Core.Bool.{Bool, true, false, cond}
 use mathlib.Core.List.{List, [], _∷_, _++_}
 use mathlib.Core.Option.{Option, none, some}
-use lib.ListN.{length, drop, getD, take, length-append, length-drop}
+use lib.ListN.{length, drop, getD, take, length-append}
 use lib.Seq.{drop-cons, take-at, length-take-le}
-use lib.Dec.{ltb, leb}
+use lib.Dec.{leb}
 use Rattle.lent.specs.Le.{leAt}
 use borrow.Author.Tests.{lt-ltb, le-ltb, le-leb, lt-leb}
 use Rattle.lent.proofs.Place.{length-listed}
 use Rattle.omap.specs.Records.{Entry, entryAt, records, omapFault}
 use Rattle.omap.specs.Window.{Piece, nextOf, pieceOf, put, pieces, windowPieces}
-use Rattle.omap.specs.Output.{shown, allFit, flat, laid, Window, counted, refusedAs, refusedFor, roomFor, unlessFault, windowSpec, windowOut}
+use Rattle.omap.specs.Output.{shown, allFit, flat, Window, counted, refusedAs, refusedFor, roomFor, unlessFault, windowSpec, windowOut}
 use Rattle.omap.proofs.Outputs.{length-flat}
 use Rattle.report.specs.Text.{digits, lines, numbered, refusedText}
 use Rattle.report.specs.Window.{pairLine, pieceLine, pairLines, piecesWord, windowPrinted, tableText, windowText}
@@ -86,6 +85,11 @@ count-fault : (o : Option ℕ) (w : Window) (n : ℕ) → counted n ≡ unlessFa
 count-fault none w n e = e
 count-fault (some k) w n e = cc
 
+never-for : (o : Option ℕ) (fits : Bool) (n k : ℕ) → unlessFault o (cond fits (counted n) (refusedAs 4)) ≡ refusedFor 5 k → ⊥
+never-for none true n k e = let z : _≡_ {A = ℕ} 0 1 = cc in omega arith
+never-for none false n k e = let z : _≡_ {A = ℕ} 0 1 = cc in omega arith
+never-for (some m) fits n k e = let z : _≡_ {A = ℕ} 0 1 = cc in omega arith
+
 module _ (s : List ℕ) (a b : ℕ) where
   -- no more pieces than records
   pub few : length (windowPieces true s a b) ≤ length s / 8
@@ -106,6 +110,12 @@ module _ (s : List ℕ) (a b : ℕ) where
     never-5 =
         let l = windowPieces true s a b in
         rw (le-leb (length l) room (omega (arith, few)), le-leb (length l) (length l) (omega arith))
+
+    pub not-short : (k : ℕ) → windowSpec true s a b room ≡ refusedFor 5 k → ⊥
+    unfolding windowSpec roomFor
+    not-short k e =
+        let l = windowPieces true s a b in
+        never-for (omapFault s) (allFit l) (length l) k (rw (le-leb (length l) room (omega (arith, few))) at e)
 
     -- so the text follows from the answer with that room
     pub text-is : (w : Window) → w ≡ windowSpec true s a b room → windowPrinted w (windowPieces true s a b) ≡ tableText a b s

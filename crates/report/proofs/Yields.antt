@@ -1,21 +1,20 @@
 -- What a step says of the frames that are left at its cursor, and how many an iteration yields.
 -- Assumes nothing.
-use mathlib.Core.Path.{_≡_, refl, sym, ap, _∙_, subst}
-use Prim.Native.Nat.{ℕ, zero, suc, _+_, _-_, _*_, _/_, _≤_, _<_}
+use mathlib.Core.Path.{_≡_, refl, sym, ap, _∙_}
+use Prim.Native.Nat.{ℕ, suc, _+_, _/_, _≤_}
 use native.Mathlib.Nat.{zero-add, add-zero}
 use native.Mathlib.Omega.{arith}
-use mathlib.Core.Bool.{Bool, true, false, cond, _&&_}
-use mathlib.Core.List.{List, [], _∷_, _++_, map}
+use mathlib.Core.Bool.{Bool, true, false, cond}
+use mathlib.Core.List.{List, [], _∷_, map}
 use mathlib.Core.Option.{Option, none, some}
 use lib.ListN.{length, length-map}
 use Rattle.lent.specs.Paper.{Told, value, nothing, refused, unless}
-use Rattle.lent.specs.Table.{listed}
 use Rattle.lent.proofs.Place.{listed-all, length-listed}
 use Rattle.framedata.specs.Records.{OldFrame, NewFrame, oldRecord, newRecord, olds, news}
-use Rattle.framedata.specs.Frame.{Frame, fromOld, fromNew, fits, toldOld}
+use Rattle.framedata.specs.Frame.{Frame, fromOld, fits}
 use Rattle.framedata.specs.Tables.{shapeOfBoth}
 use Rattle.framedata.specs.Step.{Pick, old, new, both, atStart, Stepped, frameOf, past, handed, unlessRefused, stepSpec}
-use Rattle.framedata.specs.Merge.{followed, merge, oldsFrom, newsFrom, left, frame, allFit}
+use Rattle.framedata.specs.Merge.{followed, merge, oldsFrom, left, frame, allFit}
 use Rattle.framedata.specs.declared.cursor.FrameCursor.{FrameCursor}
 use Rattle.framedata.proofs.Merging.{by-lesser}
 use Rattle.framedata.proofs.Iteration.{unrolled, here, left-step}

@@ -11,7 +11,6 @@ use Rattle.lent.specs.Paper.{Told, value, nothing, refused, unless, number}
 use Rattle.framedata.specs.Records.{olds, news}
 use Rattle.framedata.specs.Frame.{Frame}
 use Rattle.framedata.specs.Tables.{shapeOfBoth}
-use Rattle.framedata.specs.Step.{Pick}
 use Rattle.framedata.specs.Merge.{merge, frame, allFit}
 use Rattle.report.specs.Text.{hex, numbered, lines, refusedText}
 use Rattle.report.specs.declared.frames.Tallied.{Tallied}
@@ -61,7 +60,7 @@ sizeColumns f =
 abbrev pub kindColumns : Frame → List (List ℕ)
 kindColumns f = optional (f .maxStackSize) ∷ (optional (f .program) ∷ (padded 5 (typeName (f .ty)) ∷ []))
 
--- a frame
+-- a frame on its line
 unfoldable pub frameLine : Frame → List ℕ
 frameLine f = columns (sizeColumns f) ++ (columns (kindColumns f) ++ (flags f ++ (10 ∷ [])))
 

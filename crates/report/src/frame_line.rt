@@ -14,7 +14,7 @@ use framedata::FrameType;
 use framedata::Program;
 use framedata::StackSize;
 
-// The first three of the sizes' columns.
+// The columns start, size and locals.
 fn extent(f: FrameData, out: &mut [u8], at: usize) -> usize
     requires { ⌜ at + 27 ≤ length (now out) ⌝ }
     ensures { λ r. ⌜ Wrote (columns (hex 8 (f .«code_start») ∷ (hex 8 (f .«code_size») ∷ (hex 8 (f .«locals_size») ∷ [])))) (now (out .entry)) at r (now (out .exit)) ⌝ }
@@ -25,7 +25,7 @@ fn extent(f: FrameData, out: &mut [u8], at: usize) -> usize
     hex(f.locals_size as u64, 8, b" ", out, locals)
 }
 
-// The other three.
+// The columns params, prolog and saved.
 fn pushed(f: FrameData, out: &mut [u8], at: usize) -> usize
     requires { ⌜ at + 22 ≤ length (now out) ⌝ }
     ensures { λ r. ⌜ Wrote (columns (hex 8 (f .«params_size») ∷ (padded 6 (hex 4 (f .«prolog_size»)) ∷ (padded 5 (hex 4 (f .«saved_regs_size»)) ∷ [])))) (now (out .entry)) at r (now (out .exit)) ⌝ }
@@ -36,6 +36,7 @@ fn pushed(f: FrameData, out: &mut [u8], at: usize) -> usize
     hex(f.saved_regs_size as u64, 4, b"  ", out, saved)
 }
 
+// The columns of the sizes.
 fn sizes(f: FrameData, out: &mut [u8], at: usize) -> usize
     requires { ⌜ at + 49 ≤ length (now out) ⌝ }
     ensures { λ r. ⌜ Wrote (columns (sizeColumns (toldFrame f))) (now (out .entry)) at r (now (out .exit)) ⌝ }
@@ -45,6 +46,7 @@ fn sizes(f: FrameData, out: &mut [u8], at: usize) -> usize
     pushed(f, out, params)
 }
 
+// The column stack.
 fn stack(size: StackSize, out: &mut [u8], at: usize) -> usize
     requires { ⌜ at + 9 ≤ length (now out) ⌝ }
     ensures { λ r. ⌜ Wrote (columns (optional (toldStack size) ∷ [])) (now (out .entry)) at r (now (out .exit)) ⌝ }
@@ -56,6 +58,7 @@ fn stack(size: StackSize, out: &mut [u8], at: usize) -> usize
     }
 }
 
+// The column program.
 fn program(string: Program, out: &mut [u8], at: usize) -> usize
     requires { ⌜ at + 9 ≤ length (now out) ⌝ }
     ensures { λ r. ⌜ Wrote (columns (optional (toldProgram string) ∷ [])) (now (out .entry)) at r (now (out .exit)) ⌝ }
@@ -67,6 +70,7 @@ fn program(string: Program, out: &mut [u8], at: usize) -> usize
     }
 }
 
+// The column type.
 fn kind(ty: FrameType, out: &mut [u8], at: usize) -> usize
     requires { ⌜ at + 8 ≤ length (now out) ⌝ }
     ensures { λ r. ⌜ Wrote (columns (padded 5 (typeName (typeNumber ty)) ∷ [])) (now (out .entry)) at r (now (out .exit)) ⌝ }
@@ -89,6 +93,7 @@ fn letter(on: bool, letter: u8) -> u8
     if on { letter } else { b'-' }
 }
 
+// The flags, and the end of the line.
 fn letters(f: FrameData, out: &mut [u8], at: usize) -> usize
     requires { ⌜ at + 5 ≤ length (now out) ⌝ }
     ensures { λ r. ⌜ Wrote (flags (toldFrame f) ++ (10 ∷ [])) (now (out .entry)) at r (now (out .exit)) ⌝ }

@@ -1,7 +1,6 @@
 // What the program `frames` prints: the frames of both tables in order of code start.
 ghost use mathlib.Core.Path.{_≡_};
-ghost use mathlib.Core.List.{_∷_, [], _++_};
-ghost use Prim.Native.Nat.{_+_, _*_, _≤_, _/_};
+ghost use Prim.Native.Nat.{_+_, _*_, _≤_};
 ghost use lib.ListN.{length};
 ghost use Rattle.lent.specs.Paper.{value};
 ghost use Rattle.report.specs.Text.{lines, Wrote, Printed};
@@ -51,7 +50,7 @@ fn tally(old: &[u8], new: &[u8]) -> Tallied
     }
 }
 
-// The line of each frame, where nothing is refused.
+// The line of each frame. Nothing is refused here: `tally` has gone the same way before.
 fn frame_lines(old: &[u8], new: &[u8], n: usize, out: &mut [u8], at: usize) -> usize
     requires { ⌜ Counted (now old) (now new) n × (at + 80 * n ≤ length (now out)) ⌝ }
     ensures { λ r. ⌜ Wrote (lines frameLine (frames (now (old .entry)) (now (new .entry)))) (now (out .entry)) at r (now (out .exit)) ⌝ }

@@ -3,9 +3,8 @@ ghost use mathlib.Core.Path.{_≡_};
 ghost use mathlib.Core.List.{_++_};
 ghost use Prim.Native.Nat.{_+_, _≤_, _<_};
 ghost use lib.ListN.{length};
-ghost use lib.Seq.{sets};
 ghost use Rattle.lent.specs.Paper.{number};
-ghost use Rattle.report.specs.Text.{glyph, digits, hex, places, decimal, numbered, refusedText, Wrote};
+ghost use Rattle.report.specs.Text.{glyph, digits, hex, places, numbered, refusedText, Wrote};
 use lent::Refusal;
 
 // A digit below 16 in ASCII.
@@ -36,7 +35,7 @@ fn digits(n: u64, base: u64, width: usize, out: &mut [u8], at: usize) -> usize
 }
 
 // How many decimal digits n has.
-pub(crate) fn places(n: usize) -> usize
+fn places(n: usize) -> usize
     ensures { λ r. ⌜ r ≡ places n ⌝ }
 {
     let mut left = n;

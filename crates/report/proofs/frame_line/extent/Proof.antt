@@ -6,9 +6,6 @@ use Rattle.report.proofs.Writing.{wrote-both}
 use borrow.Author.Needs.{needs}
 use Rattle.report.proofs.frame_line.extent.Statement.{statement}
 use Rattle.report.proofs.frame_line.extent.Tie as tie
-use Rattle.report.proofs.frame_line.extent.Reads as reads
-use Rattle.report.proofs.frame_line.extent.Lts as lts
-use Rattle.report.proofs.text.hex.Reads as hex-reads
 
 cast-hex : tie.Need-cast-hex
 cast-hex c = search needs

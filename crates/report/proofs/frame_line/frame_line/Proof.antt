@@ -1,6 +1,5 @@
 -- `report::frame_line::frame_line` meets its contract: its columns, one after the other.
 -- Assumes nothing.
-use mathlib.Core.Path.{_≡_, refl, sym, ap, _∙_}
 use native.Mathlib.Omega.{arith}
 use lib.ListN.{take, drop}
 use Rattle.framedata.specs.Frame.{toldFrame}
@@ -10,13 +9,6 @@ use Rattle.report.proofs.Columns.{wrote-columns}
 use borrow.Author.Needs.{needs}
 use Rattle.report.proofs.frame_line.frame_line.Statement.{statement}
 use Rattle.report.proofs.frame_line.frame_line.Tie as tie
-use Rattle.report.proofs.frame_line.frame_line.Reads as reads
-use Rattle.report.proofs.frame_line.frame_line.Lts as lts
-use Rattle.report.proofs.frame_line.kind.Reads as kind-reads
-use Rattle.report.proofs.frame_line.letters.Reads as letters-reads
-use Rattle.report.proofs.frame_line.program.Reads as program-reads
-use Rattle.report.proofs.frame_line.sizes.Reads as sizes-reads
-use Rattle.report.proofs.frame_line.stack.Reads as stack-reads
 
 sizes-requires : tie.Need-sizes-requires
 sizes-requires c κs = search needs

@@ -1,14 +1,10 @@
 -- `report::frame_line::kind` meets its contract: the name of each type.
 -- Assumes nothing.
-use mathlib.Core.Path.{_≡_, refl, sym, ap, _∙_}
 use native.Mathlib.Omega.{arith}
 use Rattle.report.specs.Frames.{typeName}
 use borrow.Author.Needs.{needs}
 use Rattle.report.proofs.frame_line.kind.Statement.{statement}
 use Rattle.report.proofs.frame_line.kind.Tie as tie
-use Rattle.report.proofs.frame_line.kind.Reads as reads
-use Rattle.report.proofs.frame_line.kind.Lts as lts
-use Rattle.report.proofs.text.put.Reads as put-reads
 
 enum-told : tie.Need-enum-told
 enum-told c = search needs

@@ -1,14 +1,9 @@
 -- `report::frame_line::letters` meets its contract: the letter of each flag.
 -- Assumes nothing.
-use mathlib.Core.Path.{_≡_, refl, sym, ap, _∙_}
 use native.Mathlib.Omega.{arith}
 use borrow.Author.Needs.{needs}
 use Rattle.report.proofs.frame_line.letters.Statement.{statement}
 use Rattle.report.proofs.frame_line.letters.Tie as tie
-use Rattle.report.proofs.frame_line.letters.Reads as reads
-use Rattle.report.proofs.frame_line.letters.Lts as lts
-use Rattle.report.proofs.frame_line.letter.Reads as letter-reads
-use Rattle.report.proofs.text.put.Reads as put-reads
 
 letter-requires : tie.Need-letter-requires
 letter-requires c κs = search needs

@@ -1,14 +1,9 @@
 -- `report::frame_line::program` meets its contract: a number, or what stands for none.
 -- Assumes nothing.
-use mathlib.Core.Path.{_≡_, refl, sym, ap, _∙_}
 use native.Mathlib.Omega.{arith}
 use borrow.Author.Needs.{needs}
 use Rattle.report.proofs.frame_line.program.Statement.{statement}
 use Rattle.report.proofs.frame_line.program.Tie as tie
-use Rattle.report.proofs.frame_line.program.Reads as reads
-use Rattle.report.proofs.frame_line.program.Lts as lts
-use Rattle.report.proofs.text.hex.Reads as hex-reads
-use Rattle.report.proofs.text.put.Reads as put-reads
 
 enum-known-string : tie.Need-enum-known-string
 enum-known-string c = search needs

@@ -6,9 +6,6 @@ use Rattle.report.proofs.Writing.{length-digits, wrote-both}
 use borrow.Author.Needs.{needs}
 use Rattle.report.proofs.frame_line.pushed.Statement.{statement}
 use Rattle.report.proofs.frame_line.pushed.Tie as tie
-use Rattle.report.proofs.frame_line.pushed.Reads as reads
-use Rattle.report.proofs.frame_line.pushed.Lts as lts
-use Rattle.report.proofs.text.hex.Reads as hex-reads
 
 cast-hex : tie.Need-cast-hex
 cast-hex c = search needs

@@ -8,10 +8,6 @@ use Rattle.report.proofs.Columns.{wrote-columns}
 use borrow.Author.Needs.{needs}
 use Rattle.report.proofs.frame_line.sizes.Statement.{statement}
 use Rattle.report.proofs.frame_line.sizes.Tie as tie
-use Rattle.report.proofs.frame_line.sizes.Reads as reads
-use Rattle.report.proofs.frame_line.sizes.Lts as lts
-use Rattle.report.proofs.frame_line.extent.Reads as extent-reads
-use Rattle.report.proofs.frame_line.pushed.Reads as pushed-reads
 
 extent-requires : tie.Need-extent-requires
 extent-requires c κs = search needs

@@ -1,14 +1,9 @@
 -- `report::frame_line::stack` meets its contract: a number, or what stands for none.
 -- Assumes nothing.
-use mathlib.Core.Path.{_≡_, refl, sym, ap, _∙_}
 use native.Mathlib.Omega.{arith}
 use borrow.Author.Needs.{needs}
 use Rattle.report.proofs.frame_line.stack.Statement.{statement}
 use Rattle.report.proofs.frame_line.stack.Tie as tie
-use Rattle.report.proofs.frame_line.stack.Reads as reads
-use Rattle.report.proofs.frame_line.stack.Lts as lts
-use Rattle.report.proofs.text.hex.Reads as hex-reads
-use Rattle.report.proofs.text.put.Reads as put-reads
 
 enum-known-size : tie.Need-enum-known-size
 enum-known-size c = search needs

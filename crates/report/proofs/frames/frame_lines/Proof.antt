@@ -1,7 +1,6 @@
 -- `report::frames::frame_lines` meets its contract: the lines that are left, written onto the output as it is, give the output as it will be.
 -- Assumes nothing.
-use Prim.Native.Nat.{ℕ, _+_, _/_, _≤_}
-use mathlib.Core.Path.{_≡_, refl, sym, ap, _∙_, subst}
+use mathlib.Core.Path.{sym, ap, _∙_}
 use native.Mathlib.Omega.{arith}
 use lib.ListN.{length}
 use denote.Ref.{now}
@@ -14,11 +13,6 @@ use Rattle.report.proofs.Yields.{Yields, by-step, at-end, refusal-told}
 use Rattle.report.proofs.Listing.{Listing, listing-first, listing-last, listing-room, listing-more, no-refusal}
 use Rattle.report.proofs.frames.frame_lines.Statement.{statement}
 use Rattle.report.proofs.frames.frame_lines.Tie as tie
-use Rattle.report.proofs.frames.frame_lines.Reads as reads
-use Rattle.report.proofs.frames.frame_lines.Lts as lts
-use Rattle.framedata.proofs.cursor.FrameCursor.new.Reads as new-reads
-use Rattle.framedata.proofs.cursor.FrameCursor.step.Reads as step-reads
-use Rattle.report.proofs.frame_line.frame_line.Reads as frame-line-reads
 
 abbrev Inv-loop : tie.InvT-loop
 Inv-loop old new n out₀ at cursor₀ k₀ out cursor k = Listing old new out₀ at n cursor out k

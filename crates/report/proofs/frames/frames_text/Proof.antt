@@ -13,11 +13,6 @@ use Rattle.report.proofs.Listing.{short-frames, long-frames, overlong-f
 use borrow.Author.Needs.{needs}
 use Rattle.report.proofs.frames.frames_text.Statement.{statement}
 use Rattle.report.proofs.frames.frames_text.Tie as tie
-use Rattle.report.proofs.frames.frames_text.Reads as reads
-use Rattle.report.proofs.frames.frames_text.Lts as lts
-use Rattle.lent.proofs.u32_at.Reads as u32-at-reads
-use Rattle.report.proofs.frames.tables_text.Reads as tables-text-reads
-use Rattle.report.proofs.text.refused.Reads as refused-reads
 
 returns : tie.Need-returns
 returns c = not-printed framesRoom (framesText (now (c .before .before .before .args .input))) (now (c .before .before .before .args .out)) (c .if1 .taken)

@@ -7,11 +7,6 @@ use Rattle.report.proofs.Listing.{length-frames}
 use borrow.Author.Needs.{needs}
 use Rattle.report.proofs.frames.listing.Statement.{statement}
 use Rattle.report.proofs.frames.listing.Tie as tie
-use Rattle.report.proofs.frames.listing.Reads as reads
-use Rattle.report.proofs.frames.listing.Lts as lts
-use Rattle.report.proofs.frames.frame_lines.Reads as frame-lines-reads
-use Rattle.report.proofs.text.numbered.Reads as numbered-reads
-use Rattle.report.proofs.text.put.Reads as put-reads
 
 slice-aggregate-put : tie.Need-slice-aggregate-put
 slice-aggregate-put c = search needs

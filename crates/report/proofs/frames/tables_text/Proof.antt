@@ -11,12 +11,6 @@ use Rattle.report.proofs.Listing.{few-frames, all-frames, refused-frame
 use borrow.Author.Needs.{needs}
 use Rattle.report.proofs.frames.tables_text.Statement.{statement}
 use Rattle.report.proofs.frames.tables_text.Tie as tie
-use Rattle.report.proofs.frames.tables_text.Reads as reads
-use Rattle.report.proofs.frames.tables_text.Lts as lts
-use Rattle.report.proofs.frames.listing.Reads as listing-reads
-use Rattle.report.proofs.frames.tally.Reads as tally-reads
-use Rattle.report.proofs.text.number.Reads as number-reads
-use Rattle.report.proofs.text.refused.Reads as refused-reads
 
 tally-requires : tie.Need-tally-requires
 tally-requires c κs = search needs

@@ -1,7 +1,7 @@
 -- `report::frames::tally` meets its contract: those counted and those that are left at the cursor are all of them.
 -- Assumes nothing.
-use Prim.Native.Nat.{ℕ, _+_, _/_, _≤_}
-use mathlib.Core.Path.{_≡_, refl, sym, ap, _∙_, subst}
+use Prim.Native.Nat.{_+_, _/_, _≤_}
+use mathlib.Core.Path.{_≡_, sym, ap, _∙_}
 use native.Mathlib.Omega.{arith}
 use lib.ListN.{length}
 use denote.Ref.{now}
@@ -11,13 +11,9 @@ use Rattle.framedata.specs.Frame.{toldFrame}
 use Rattle.framedata.specs.Step.{toldStep}
 use Rattle.lent.specs.Paper.{number}
 use Rattle.report.specs.Frames.{yielded, howMany}
-use Rattle.report.proofs.Yields.{Yields, leftOver, by-step, one-more, all-told, refusal-told, from-start, all-left, few-left}
+use Rattle.report.proofs.Yields.{Yields, leftOver, by-step, one-more, all-told, refusal-told, all-left, few-left}
 use Rattle.report.proofs.frames.tally.Statement.{statement}
 use Rattle.report.proofs.frames.tally.Tie as tie
-use Rattle.report.proofs.frames.tally.Reads as reads
-use Rattle.report.proofs.frames.tally.Lts as lts
-use Rattle.framedata.proofs.cursor.FrameCursor.new.Reads as new-reads
-use Rattle.framedata.proofs.cursor.FrameCursor.step.Reads as step-reads
 
 abbrev Inv-loop : tie.InvT-loop
 Inv-loop old new cursor₀ n₀ cursor n = (leftOver old new cursor n ≡ howMany (yielded old new)) × (n + length (left old new cursor) ≤ length old / 16 + length new / 32)

@@ -1,21 +1,16 @@
 -- `report::text::digits` meets its contract: the digits that are left, written onto the output as it is, give the output as it will be.
 -- Assumes nothing.
-use mathlib.Core.Path.{_≡_, refl, sym, ap, _∙_}
-use Prim.Native.Nat.{ℕ, _+_, _-_, _/_, _%_, _≤_, _<_}
+use mathlib.Core.Path.{_≡_, refl, _∙_}
+use Prim.Native.Nat.{_≤_, _<_}
 use native.Mathlib.Omega.{arith}
-use mathlib.Core.List.{List}
 use lib.ListN.{length, length-set}
 use lib.Seq.{sets}
 use native.Mathlib.Nat.{mod-lt}
-use denote.Ref.{now}
 use borrow.Author.Needs.{needs}
 use Rattle.report.specs.Text.{digits}
 use Rattle.report.proofs.Writing.{length-digits, digit-less}
 use Rattle.report.proofs.text.digits.Statement.{statement}
 use Rattle.report.proofs.text.digits.Tie as tie
-use Rattle.report.proofs.text.digits.Reads as reads
-use Rattle.report.proofs.text.digits.Lts as lts
-use Rattle.report.proofs.text.glyph.Reads as glyph-reads
 
 abbrev Inv-loop : tie.InvT-loop
 Inv-loop n base width out₀ at left₀ k₀ out left k = (k ≤ width) × ((length out ≡ length out₀) × (sets out at (digits base k left) ≡ sets out₀ at (digits base width n)))

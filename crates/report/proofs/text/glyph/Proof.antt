@@ -5,8 +5,6 @@ use Rattle.report.specs.Text.{glyph}
 use borrow.Author.Needs.{needs}
 use Rattle.report.proofs.text.glyph.Statement.{statement}
 use Rattle.report.proofs.text.glyph.Tie as tie
-use Rattle.report.proofs.text.glyph.Reads as reads
-use Rattle.report.proofs.text.glyph.Lts as lts
 
 add-result : tie.Need-add-result
 add-result c = search needs

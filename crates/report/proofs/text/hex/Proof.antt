@@ -5,10 +5,6 @@ use Rattle.report.proofs.Writing.{length-digits, wrote-both}
 use borrow.Author.Needs.{needs}
 use Rattle.report.proofs.text.hex.Statement.{statement}
 use Rattle.report.proofs.text.hex.Tie as tie
-use Rattle.report.proofs.text.hex.Reads as reads
-use Rattle.report.proofs.text.hex.Lts as lts
-use Rattle.report.proofs.text.digits.Reads as digits-reads
-use Rattle.report.proofs.text.put.Reads as put-reads
 
 digits-requires : tie.Need-digits-requires
 digits-requires c κs = search needs

@@ -5,11 +5,6 @@ use Rattle.report.proofs.Writing.{length-digits, wrote-both}
 use borrow.Author.Needs.{needs}
 use Rattle.report.proofs.text.numbered.Statement.{statement}
 use Rattle.report.proofs.text.numbered.Tie as tie
-use Rattle.report.proofs.text.numbered.Reads as reads
-use Rattle.report.proofs.text.numbered.Lts as lts
-use Rattle.report.proofs.text.digits.Reads as digits-reads
-use Rattle.report.proofs.text.places.Reads as places-reads
-use Rattle.report.proofs.text.put.Reads as put-reads
 
 put-requires : tie.Need-put-requires
 put-requires c κs = search needs

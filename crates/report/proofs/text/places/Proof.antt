@@ -1,14 +1,12 @@
 -- `report::text::places` meets its contract: the digits counted and those of what is left are all of them.
 -- Assumes nothing.
-use mathlib.Core.Path.{_≡_, refl, sym, ap, _∙_}
-use Prim.Native.Nat.{ℕ, _+_, _-_, _/_, _%_, _≤_, _<_}
+use mathlib.Core.Path.{_≡_}
+use Prim.Native.Nat.{_+_, _≤_}
 use native.Mathlib.Omega.{arith}
 use Rattle.report.specs.Text.{places}
 use Rattle.report.proofs.Writing.{places-one, places-more}
 use Rattle.report.proofs.text.places.Statement.{statement}
 use Rattle.report.proofs.text.places.Tie as tie
-use Rattle.report.proofs.text.places.Reads as reads
-use Rattle.report.proofs.text.places.Lts as lts
 
 abbrev Inv-loop : tie.InvT-loop
 Inv-loop n left₀ k₀ left k = (k + left ≤ n + 1) × (k + places left ≡ 1 + places n)

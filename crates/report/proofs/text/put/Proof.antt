@@ -1,19 +1,15 @@
 -- `report::text::put` meets its contract: the bytes that are left, written onto the output as it is, give the output as it will be.
 -- Assumes nothing.
 use native.Mathlib.Nat.{add-zero}
-use mathlib.Core.Path.{_≡_, refl, sym, ap, _∙_}
-use Prim.Native.Nat.{ℕ, _+_, _-_, _/_, _%_, _≤_, _<_}
+use mathlib.Core.Path.{_≡_, refl, _∙_}
+use Prim.Native.Nat.{_+_, _-_, _≤_}
 use native.Mathlib.Omega.{arith}
-use mathlib.Core.List.{List}
 use lib.ListN.{length, drop, length-set}
 use lib.Seq.{sets, drop-length}
 use denote.Ref.{now}
-use borrow.Author.Needs.{needs}
 use Rattle.report.proofs.Writing.{byte-less}
 use Rattle.report.proofs.text.put.Statement.{statement}
 use Rattle.report.proofs.text.put.Tie as tie
-use Rattle.report.proofs.text.put.Reads as reads
-use Rattle.report.proofs.text.put.Lts as lts
 
 abbrev Inv-loop : tie.InvT-loop
 Inv-loop word out₀ at i₀ out i = (i ≤ length word) × ((length out ≡ length out₀) × (sets out (at + i) (drop i word) ≡ sets out₀ at word))

@@ -5,9 +5,6 @@ use Rattle.report.proofs.Writing.{places-one}
 use borrow.Author.Needs.{needs}
 use Rattle.report.proofs.text.refused.Statement.{statement}
 use Rattle.report.proofs.text.refused.Tie as tie
-use Rattle.report.proofs.text.refused.Reads as reads
-use Rattle.report.proofs.text.refused.Lts as lts
-use Rattle.report.proofs.text.numbered.Reads as numbered-reads
 
 slice-aggregate-numbered : tie.Need-slice-aggregate-numbered
 slice-aggregate-numbered c = search needs

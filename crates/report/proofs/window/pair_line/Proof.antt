@@ -5,9 +5,6 @@ use Rattle.report.proofs.Writing.{wrote-both}
 use borrow.Author.Needs.{needs}
 use Rattle.report.proofs.window.pair_line.Statement.{statement}
 use Rattle.report.proofs.window.pair_line.Tie as tie
-use Rattle.report.proofs.window.pair_line.Reads as reads
-use Rattle.report.proofs.window.pair_line.Lts as lts
-use Rattle.report.proofs.text.hex.Reads as hex-reads
 
 slice-aggregate-hex : tie.Need-slice-aggregate-hex
 slice-aggregate-hex c = search needs

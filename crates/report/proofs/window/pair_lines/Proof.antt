@@ -1,19 +1,16 @@
 -- `report::window::pair_lines` meets its contract: the lines that are left, written onto the output as it is, give the output as it will be.
 -- Assumes nothing.
-use Prim.Native.Nat.{ℕ, _+_, _-_, _*_, _/_, _≤_, _<_}
-use mathlib.Core.Path.{_≡_, refl, sym, ap, _∙_}
-use mathlib.Core.List.{List, [], _++_}
+use Prim.Native.Nat.{_+_, _-_, _*_, _≤_}
+use mathlib.Core.Path.{_≡_}
+use mathlib.Core.List.{[], _++_}
 use native.Mathlib.Omega.{arith}
-use lib.ListN.{length, drop, getD, length-drop}
+use lib.ListN.{drop, getD, length-drop}
 use denote.Ref.{now}
 use Rattle.report.specs.Window.{pairLine, pairLines}
 use Rattle.report.proofs.Writing.{Left, left-first, left-last, left-room, left-more}
 use Rattle.report.proofs.Windows.{length-pair, pair-less, pairs-none}
 use Rattle.report.proofs.window.pair_lines.Statement.{statement}
 use Rattle.report.proofs.window.pair_lines.Tie as tie
-use Rattle.report.proofs.window.pair_lines.Reads as reads
-use Rattle.report.proofs.window.pair_lines.Lts as lts
-use Rattle.report.proofs.window.pair_line.Reads as pair-line-reads
 
 abbrev Inv-loop : tie.InvT-loop
 Inv-loop pairs out₀ at n i₀ k₀ out i k = (i ≤ n) × Left (pairLines pairs) out₀ at (pairLines (drop (2 * i) pairs)) out k

@@ -10,10 +10,6 @@ use Rattle.report.proofs.Windows.{taken-pairs}
 use borrow.Author.Needs.{needs}
 use Rattle.report.proofs.window.pieces_text.Statement.{statement}
 use Rattle.report.proofs.window.pieces_text.Tie as tie
-use Rattle.report.proofs.window.pieces_text.Reads as reads
-use Rattle.report.proofs.window.pieces_text.Lts as lts
-use Rattle.report.proofs.text.numbered.Reads as numbered-reads
-use Rattle.report.proofs.window.pair_lines.Reads as pair-lines-reads
 
 mul-last : tie.Need-mul-last
 mul-last c = search needs

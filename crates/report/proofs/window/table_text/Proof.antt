@@ -1,28 +1,21 @@
 -- `report::window::table_text` meets its contract: each answer about the window, as its text.
 -- Assumes nothing.
-use Prim.Native.Nat.{ℕ, _*_, _/_, _≤_}
+use Prim.Native.Nat.{ℕ, _/_, _≤_}
 use mathlib.Core.Bool.{true}
 use mathlib.Core.List.{List}
 use lib.ListN.{length, replicate, length-replicate}
 use mathlib.Core.Path.{_≡_, sym, ap, _∙_, subst}
 use native.Mathlib.Omega.{arith}
-use lib.Seq.{length-take-le}
 use denote.Ref.{now}
 use Rattle.lent.specs.Paper.{number}
 use Rattle.omap.specs.declared.window.Windowed.the-variants as windowed
 use Rattle.report.specs.Text.{refusedText, Wrote}
-use Rattle.omap.specs.Output.{counted, refusedAs, refusedFor, toldWindowed, windowSpec, windowOut}
+use Rattle.omap.specs.Output.{refusedAs, refusedFor, toldWindowed, windowSpec, windowOut}
 use Rattle.report.proofs.Writing.{number-small}
 use Rattle.report.proofs.Windows.{few, counted-all, text-is, pieces-text}
 use borrow.Author.Needs.{needs}
 use Rattle.report.proofs.window.table_text.Statement.{statement}
 use Rattle.report.proofs.window.table_text.Tie as tie
-use Rattle.report.proofs.window.table_text.Reads as reads
-use Rattle.report.proofs.window.table_text.Lts as lts
-use Rattle.omap.proofs.window.lookup_range.Reads as lookup-range-reads
-use Rattle.report.proofs.text.refused.Reads as refused-reads
-use Rattle.report.proofs.text.number.Reads as number-reads
-use Rattle.report.proofs.window.pieces_text.Reads as pieces-text-reads
 
 -- the answer about the window, with room for 8,192 pairs
 module _ (c : tie.After-lookup-range) where

@@ -1,7 +1,5 @@
 -- `report::window_text` meets its contract: by the length of the input.
 -- Assumes nothing.
-use mathlib.Core.Path.{_≡_, sym, ap, _∙_, subst}
-use native.Mathlib.Omega.{arith}
 use denote.Ref.{now}
 use Rattle.report.specs.Window.{windowText}
 use Rattle.report.proofs.Writing.{printed, not-printed, part-from}
@@ -9,11 +7,6 @@ use Rattle.report.proofs.Windows.{short, long, whole}
 use borrow.Author.Needs.{needs}
 use Rattle.report.proofs.window.window_text.Statement.{statement}
 use Rattle.report.proofs.window.window_text.Tie as tie
-use Rattle.report.proofs.window.window_text.Reads as reads
-use Rattle.report.proofs.window.window_text.Lts as lts
-use Rattle.lent.proofs.u32_at.Reads as u32-at-reads
-use Rattle.report.proofs.text.refused.Reads as refused-reads
-use Rattle.report.proofs.window.table_text.Reads as table-text-reads
 
 returns : tie.Need-returns
 returns c = not-printed 147456 (windowText (now (c .before .before .before .args .input))) (now (c .before .before .before .args .out)) (c .if1 .taken)
