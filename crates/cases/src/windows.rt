@@ -46,23 +46,12 @@ pub(crate) fn all() {
     shows(t, 0x800, 0x1400, 0, 3, &three);
     // 10→FFFFFFF0
     let high = b"\x10\0\0\0\xF0\xFF\xFF\xFF";
-    shows(high, 0x10, 0x20, 4, 0, &[9, 9, 9, 9, 9, 9, 9]);
-    shows(
-        high,
-        0x10,
-        0x1F,
-        0,
-        1,
-        &[0xFFFFFFF0, 0xFFFFFFFF, 9, 9, 9, 9, 9],
-    );
+    let none = [9, 9, 9, 9, 9, 9, 9];
+    shows(high, 0x10, 0x20, 4, 0, &none);
+    let one = [0xFFFFFFF0, 0xFFFFFFFF, 9, 9, 9, 9, 9];
+    shows(high, 0x10, 0x1F, 0, 1, &one);
     // 10→100, 20→110: touching pieces are not joined
     let touching = b"\x10\0\0\0\x00\x01\0\0\x20\0\0\0\x10\x01\0\0";
-    shows(
-        touching,
-        0x10,
-        0x30,
-        0,
-        2,
-        &[0x100, 0x110, 0x110, 0x120, 9, 9, 9],
-    );
+    let two = [0x100, 0x110, 0x110, 0x120, 9, 9, 9];
+    shows(touching, 0x10, 0x30, 0, 2, &two);
 }

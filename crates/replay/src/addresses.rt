@@ -36,9 +36,7 @@ pub(crate) fn virtual_address(s: &[u8]) -> Told {
     let at = table.to;
     let offset = u32_at(s, after(at, 2));
     let ours = gillacorn_virtual_address(bytes(s, table), u16_at(s, at), offset);
-    crate::told::from(after(at, 6))
-        .small(s, ours.code)
-        .u32(s, ours.value)
+    crate::told::code(s, after(at, 6), ours.code).u32(s, ours.value)
 }
 
 // What each conversion is asked: its four tables, a section, and an offset or an address.
@@ -88,7 +86,7 @@ fn plain(ours: Value) -> OffsetAnswer {
 }
 
 fn offset_told(s: &[u8], at: usize, ours: OffsetAnswer) -> Told {
-    let told = crate::told::from(at).small(s, ours.code);
+    let told = crate::told::code(s, at, ours.code);
     told.u16(s, ours.section).u32(s, ours.offset)
 }
 

@@ -12,7 +12,7 @@ pub(crate) fn clash(s: &[u8]) -> Told {
     let at = table.to;
     let b = u32_at(s, after(at, 4));
     let ours = gillacorn_clash(bytes(s, table), u32_at(s, at), b);
-    let told = crate::told::from(after(at, 8)).small(s, ours.code);
+    let told = crate::told::code(s, after(at, 8), ours.code);
     told.u32(s, ours.first).u32(s, ours.second)
 }
 
@@ -22,7 +22,7 @@ pub(crate) fn way_back(s: &[u8]) -> Told {
     let b = u32_at(s, after(at, 4));
     let t = u32_at(s, after(at, 8));
     let ours = gillacorn_way_back(bytes(s, table), u32_at(s, at), b, t);
-    let told = crate::told::from(after(at, 12)).small(s, ours.code);
+    let told = crate::told::code(s, after(at, 12), ours.code);
     told.u32(s, ours.sources)
         .u32(s, ours.first)
         .u32(s, ours.second)

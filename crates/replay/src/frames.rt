@@ -18,7 +18,7 @@ pub(crate) fn old_frame(s: &[u8]) -> Told {
     let table = present_at(s, 1);
     let at = table.to;
     let ours = gillacorn_old_frame(bytes(s, table), u32_at(s, at) as usize);
-    let told = crate::told::from(after(at, 4)).small(s, ours.code);
+    let told = crate::told::code(s, after(at, 4), ours.code);
     frame_told(s, told, ours.frame)
 }
 
@@ -26,7 +26,7 @@ pub(crate) fn new_frame(s: &[u8]) -> Told {
     let table = present_at(s, 1);
     let at = table.to;
     let ours = gillacorn_new_frame(bytes(s, table), u32_at(s, at) as usize);
-    let told = crate::told::from(after(at, 4)).small(s, ours.code);
+    let told = crate::told::code(s, after(at, 4), ours.code);
     frame_told(s, told, ours.frame)
 }
 
@@ -45,7 +45,7 @@ pub(crate) fn next(s: &[u8]) -> Told {
         new.present,
         bytes(s, new),
     );
-    let told = crate::told::from(after(at, 8)).small(s, ours.code);
+    let told = crate::told::code(s, after(at, 8), ours.code);
     let told = frame_told(s, told, ours.frame);
     told.place(s, ours.cursor.old_index)
         .place(s, ours.cursor.new_index)
@@ -63,7 +63,7 @@ pub(crate) fn from_address(s: &[u8]) -> Told {
         new.present,
         bytes(s, new),
     );
-    let told = crate::told::from(after(at, 4)).small(s, ours.code);
+    let told = crate::told::code(s, after(at, 4), ours.code);
     told.place(s, ours.cursor.old_index)
         .place(s, ours.cursor.new_index)
 }
@@ -72,9 +72,7 @@ pub(crate) fn empty(s: &[u8]) -> Told {
     let old = table_at(s, 1);
     let new = table_at(s, old.to);
     let ours = gillacorn_frames_empty(old.present, bytes(s, old), new.present, bytes(s, new));
-    crate::told::from(new.to)
-        .small(s, ours.code)
-        .u32(s, ours.value)
+    crate::told::code(s, new.to, ours.code).u32(s, ours.value)
 }
 
 fn frame_told(s: &[u8], told: Told, ours: FrameShown) -> Told {

@@ -18,7 +18,7 @@ pub(crate) fn header(s: &[u8]) -> Told {
     let ours = gillacorn_header(bytes(s, table), place);
     let header = ours.header;
     let name = header.name;
-    let told = crate::told::from(after(at, 4)).small(s, ours.code);
+    let told = crate::told::code(s, after(at, 4), ours.code);
     let told = told.u8(s, name[0])
         .u8(s, name[1])
         .u8(s, name[2])
@@ -74,5 +74,5 @@ pub(crate) fn flags(s: &[u8]) -> Told {
 
 pub(crate) fn alignment(s: &[u8]) -> Told {
     let ours = gillacorn_alignment(u32_at(s, 1));
-    crate::told::from(5).small(s, ours.code).u32(s, ours.value)
+    crate::told::code(s, 5, ours.code).u32(s, ours.value)
 }

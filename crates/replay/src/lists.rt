@@ -1,7 +1,6 @@
 // The lent list of records: operation 10. A function that lends memory of records is proved by hand,
 // so the reader's `drain` answers here, into two places for each record. By their contracts it leaves
 // there what `gillacorn_list` leaves in the records: `pairs-of-list` of proofs/Listed.antt.
-use crate::input::FAR;
 use crate::input::Table;
 use crate::input::after;
 use crate::input::bytes;
@@ -19,7 +18,7 @@ pub(crate) fn list(s: &[u8]) -> Told {
     let table = table_at(s, 1);
     let records = u16_at(s, after(table.to, 8)) as usize;
     if MOST / 2 < records {
-        return crate::told::from(FAR);
+        return crate::told::broken();
     }
     let mut out = [0u32; MOST];
     let places = 2 * records;

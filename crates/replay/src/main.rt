@@ -7,6 +7,7 @@ mod frames;
 mod headers;
 mod input;
 mod lists;
+mod names;
 mod report;
 mod tables;
 mod told;
@@ -27,7 +28,7 @@ fn buffer() -> [u8; MOST]
 // Our answer to the case `s` of an operation, compared.
 fn compared(operation: u8, s: &[u8]) -> Told {
     if 2 < input::u8_at(s, 0) {
-        return told::from(input::FAR);
+        return told::broken();
     }
     match operation {
         1 => headers::header(s),
@@ -50,7 +51,7 @@ fn compared(operation: u8, s: &[u8]) -> Told {
         18 => frames::from_address(s),
         19 => frames::empty(s),
         20..=31 => addresses::conversion(s, operation),
-        _ => told::from(input::FAR),
+        _ => told::broken(),
     }
 }
 
@@ -86,10 +87,9 @@ fn replay(file: &[u8], cases: &mut [u64; 32], agreed: &mut [u64; 32]) -> usize {
 }
 
 fn main() {
-    let path = b"replay.bin";
-    let descriptor = os::open_read(path);
+    let descriptor = os::open_read(b"replay.bin");
     if descriptor < 0 {
-        os::fail(path);
+        io::write_all(1, b"no file replay.bin\n");
         return;
     }
     let mut file = buffer();

@@ -1,4 +1,5 @@
 // What the program counts and prints.
+use crate::names::named;
 use io::print_decimal;
 use io::write_all;
 
@@ -77,44 +78,4 @@ fn last(cases: u64, differing: u64) {
     write_all(1, b" cases, ");
     print_decimal(1, differing);
     write_all(1, b" differ\n");
-}
-
-// The number of an operation and its name.
-fn named(operation: u8) {
-    print_decimal(1, operation as u64);
-    write_all(1, b" ");
-    match operation {
-        1 => write_all(1, b"header"),
-        2 => write_all(1, b"name"),
-        3 => write_all(1, b"flags"),
-        4 => write_all(1, b"alignment"),
-        5 => write_all(1, b"record_at"),
-        6 => write_all(1, b"lookup"),
-        7 => write_all(1, b"lookup_range"),
-        8 => write_all(1, b"cursor start"),
-        9 => write_all(1, b"cursor step"),
-        10 => write_all(1, b"list"),
-        11 => write_all(1, b"clash"),
-        12 => write_all(1, b"way_back"),
-        13 => write_all(1, b"section_offset"),
-        14 => write_all(1, b"virtual_address"),
-        15 => write_all(1, b"old frame"),
-        16 => write_all(1, b"new frame"),
-        17 => write_all(1, b"frame iteration"),
-        18 => write_all(1, b"frames from an address"),
-        19 => write_all(1, b"is_empty"),
-        20 => write_all(1, b"Rva::to_internal_rva"),
-        21 => write_all(1, b"Rva::to_section_offset"),
-        22 => write_all(1, b"Rva::to_internal_offset"),
-        23 => write_all(1, b"PdbInternalRva::to_rva"),
-        24 => write_all(1, b"PdbInternalRva::to_section_offset"),
-        25 => write_all(1, b"PdbInternalRva::to_internal_offset"),
-        26 => write_all(1, b"SectionOffset::to_rva"),
-        27 => write_all(1, b"SectionOffset::to_internal_rva"),
-        28 => write_all(1, b"SectionOffset::to_internal_offset"),
-        29 => write_all(1, b"PdbInternalSectionOffset::to_rva"),
-        30 => write_all(1, b"PdbInternalSectionOffset::to_internal_rva"),
-        _ => write_all(1, b"PdbInternalSectionOffset::to_section_offset"),
-    }
-    ;
 }

@@ -1,5 +1,4 @@
 // OMAP tables: operations 5 to 9.
-use crate::input::FAR;
 use crate::input::Table;
 use crate::input::after;
 use crate::input::bytes;
@@ -24,7 +23,7 @@ pub(crate) fn record_at(s: &[u8]) -> Told {
     let at = table.to;
     let place = u32_at(s, at) as usize;
     let ours = gillacorn_record_at(bytes(s, table), place);
-    let told = crate::told::from(after(at, 4)).small(s, ours.code);
+    let told = crate::told::code(s, after(at, 4), ours.code);
     told.u32(s, ours.source).u32(s, ours.target)
 }
 
@@ -32,16 +31,14 @@ pub(crate) fn lookup(s: &[u8]) -> Told {
     let table = table_at(s, 1);
     let at = table.to;
     let ours = gillacorn_lookup(table.present, bytes(s, table), u32_at(s, at));
-    crate::told::from(after(at, 4))
-        .small(s, ours.code)
-        .u32(s, ours.value)
+    crate::told::code(s, after(at, 4), ours.code).u32(s, ours.value)
 }
 
 pub(crate) fn lookup_range(s: &[u8]) -> Told {
     let table = table_at(s, 1);
     let places = u16_at(s, after(table.to, 8)) as usize;
     if MOST < places {
-        return crate::told::from(FAR);
+        return crate::told::broken();
     }
     let mut out = [0u32; MOST];
     ranged(s, table, &mut out[..places])
@@ -58,7 +55,7 @@ fn ranged(s: &[u8], table: Table, out: &mut [u32]) -> Told {
 
 // The answer about the window that is asked at `at`, and the output at exit.
 pub(crate) fn window_told(s: &[u8], at: usize, ours: Pieces, out: &[u32]) -> Told {
-    let told = crate::told::from(after(at, 10)).small(s, ours.code);
+    let told = crate::told::code(s, after(at, 10), ours.code);
     written(s, told.place(s, ours.pieces), out)
 }
 
@@ -89,7 +86,7 @@ pub(crate) fn cursor_start(s: &[u8]) -> Told {
     let at = table.to;
     let b = u32_at(s, after(at, 4));
     let ours = gillacorn_cursor_start(table.present, bytes(s, table), u32_at(s, at), b);
-    let told = crate::told::from(after(at, 8)).small(s, ours.code);
+    let told = crate::told::code(s, after(at, 8), ours.code);
     cursor_told(s, told, ours.cursor)
 }
 
@@ -104,7 +101,7 @@ pub(crate) fn cursor_step(s: &[u8]) -> Told {
         place: u32_at(s, after(at, 16)) as usize,
     };
     let ours = gillacorn_cursor_step(cursor, table.present, bytes(s, table));
-    let told = crate::told::from(after(at, 20)).small(s, ours.code);
+    let told = crate::told::code(s, after(at, 20), ours.code);
     let told = told.u32(s, ours.start).u32(s, ours.end);
     cursor_told(s, told, ours.cursor)
 }

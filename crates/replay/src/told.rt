@@ -1,4 +1,5 @@
 // Comparing the answer in a case with ours, number by number.
+use crate::input::FAR;
 use crate::input::after;
 use crate::input::u8_at;
 use crate::input::u16_at;
@@ -10,9 +11,22 @@ pub struct Told {
     pub same: bool,
 }
 
-// The answer begins here, and nothing of it is read.
+// A case that breaks the format: read past every end.
+pub(crate) fn broken() -> Told {
+    Told {
+        at: FAR,
+        same: false,
+    }
+}
+
+// An answer begins at `at`.
 pub(crate) fn from(at: usize) -> Told {
     Told { at, same: true }
+}
+
+// An answer begins at `at`, with a code.
+pub(crate) fn code(s: &[u8], at: usize, ours: u32) -> Told {
+    from(at).small(s, ours)
 }
 
 impl Told {
@@ -42,7 +56,7 @@ impl Told {
         self.next(4, theirs == ours)
     }
 
-    // A code or a type, which has one byte in a case.
+    // A code, a type or marks, which have one byte in a case.
     pub(crate) fn small(self, s: &[u8], ours: u32) -> Told {
         let theirs = u8_at(s, self.at) as u32;
         self.next(1, theirs == ours)

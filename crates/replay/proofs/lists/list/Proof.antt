@@ -17,8 +17,8 @@ u16-at-requires c κs = search needs
 cast-records : tie.Need-cast-records
 cast-records c = search needs
 
-from-requires : tie.Need-from-requires
-from-requires c κs = search needs
+broken-requires : tie.Need-broken-requires
+broken-requires c κs = search needs
 
 returns : tie.Need-returns
 returns c = search needs
@@ -46,7 +46,7 @@ list-spec =
     after-requires
     u16-at-requires
     cast-records
-    from-requires
+    broken-requires
     returns
     mul-places
     array-borrow-prefix-out

@@ -17,8 +17,8 @@ u16-at-requires c κs = search needs
 cast-places : tie.Need-cast-places
 cast-places c = search needs
 
-from-requires : tie.Need-from-requires
-from-requires c κs = search needs
+broken-requires : tie.Need-broken-requires
+broken-requires c κs = search needs
 
 returns : tie.Need-returns
 returns c = search needs
@@ -43,7 +43,7 @@ lookup-range-spec =
     after-requires
     u16-at-requires
     cast-places
-    from-requires
+    broken-requires
     returns
     array-borrow-prefix-out
     slice-aggregate-ranged
