@@ -9,13 +9,12 @@ use mathlib.Core.Option.{none, some}
 use lib.ListN.{length}
 use lib.Dec.{ltb}
 use borrow.Author.Tests.{le-leb, lt-leb, le-ltb, lt-ltb}
-use Rattle.lent.specs.Paper.{value, nothing, refused}
+use Rattle.lent.specs.Paper.{value, nothing, refused, fitted}
 use Rattle.lent.specs.Table.{listed, sectionShape}
 use Rattle.lent.proofs.Place.{listed-step, listed-end, listed-all}
 use Rattle.pe.specs.Header.{headerAt}
 use Rattle.pe.specs.Extent.{extent}
 use Rattle.pe.specs.declared.header.ImageSectionHeader.{ImageSectionHeader}
-use Rattle.omap.specs.Lookup.{fitted}
 use Rattle.address_map.specs.Sections.{Offset, walk, sectionSpec, placed, addressSpec}
 
 -- the headers from place i on

@@ -15,13 +15,13 @@ use Prim.Native.Nat.{ℕ}
 use mathlib.Core.Bool.{Bool, cond}
 use mathlib.Core.List.{List}
 use Rattle.lent.specs.Paper.{Told, value, nothing, refused, andThen, number}
-use Rattle.lent.specs.Table.{held}
+use Rattle.lent.specs.Table.{ifPresent}
 use Rattle.omap.specs.Lookup.{lookupSpec}
 use Rattle.address_map.specs.Sections.{Offset, sectionSpec, addressSpec}
 
 -- the sections of the actual side
 abbrev pub actual : Bool → List ℕ → Bool → List ℕ → List ℕ
-actual hasOriginal original hasTransformed transformed = cond hasTransformed transformed (held hasOriginal original)
+actual hasOriginal original hasTransformed transformed = cond hasTransformed transformed (ifPresent hasOriginal original)
 
 -- cross, locate
 unfoldable pub crossLocate : Bool → List ℕ → List ℕ → ℕ → Told Offset

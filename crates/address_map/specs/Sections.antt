@@ -5,12 +5,11 @@ use mathlib.Core.List.{List, [], _∷_}
 use mathlib.Core.Option.{Option, none, some}
 use lib.ListN.{length}
 use lib.Dec.{ltb, leb}
-use Rattle.lent.specs.Paper.{Told, value, nothing, refused, unless, number}
-use Rattle.lent.specs.Table.{sectionShape, held}
+use Rattle.lent.specs.Paper.{Told, value, nothing, refused, unless, number, fitted}
+use Rattle.lent.specs.Table.{sectionShape, ifPresent}
 use Rattle.pe.specs.Header.{headerAt, headers}
 use Rattle.pe.specs.Extent.{extent}
 use Rattle.pe.specs.declared.header.ImageSectionHeader.{ImageSectionHeader}
-use Rattle.omap.specs.Lookup.{fitted}
 use Rattle.address_map.specs.declared.sections.Located.{Located}
 use Rattle.address_map.specs.declared.sections.Located.the-variants as located
 

@@ -1,7 +1,7 @@
 // The address map: conversions between addresses and offsets of the actual image and of the original
 // one. Each takes the tables on its path, behind their marks, and refuses at the first step that fails.
 ghost use mathlib.Core.Path.{_≡_};
-ghost use Rattle.lent.specs.Table.{held};
+ghost use Rattle.lent.specs.Table.{ifPresent};
 ghost use Rattle.omap.specs.Lookup.{lookupSpec, toldLooked};
 ghost use Rattle.address_map.specs.Sections.{sectionSpec, addressSpec, toldLocated};
 ghost use Rattle.address_map.specs.Paths.{actual, crossLocate, placeCross, placeCrossLocate, ifTransformed};
@@ -135,9 +135,9 @@ impl Rva {
         has_to_original: bool,
         to_original: &[u8],
     ) -> ToInternalOffset
-        ensures { λ r. ⌜ toldInternalOffset r ≡ crossLocate «has_to_original» (now («to_original» .entry)) (held «has_original» (now (original .entry))) (self .0) ⌝ }
+        ensures { λ r. ⌜ toldInternalOffset r ≡ crossLocate «has_to_original» (now («to_original» .entry)) (ifPresent «has_original» (now (original .entry))) (self .0) ⌝ }
     {
-        let sections = lent::held(has_original, original);
+        let sections = lent::if_present(has_original, original);
         internal_offset_of(paths::cross_locate(has_to_original, to_original, sections, self.0))
     }
 }
@@ -168,9 +168,9 @@ impl PdbInternalRva {
 
     // The section of the original image and the offset in it.
     pub fn to_internal_offset(self, has_original: bool, original: &[u8]) -> ToInternalOffset
-        ensures { λ r. ⌜ toldInternalOffset r ≡ sectionSpec (held «has_original» (now (original .entry))) (self .0) ⌝ }
+        ensures { λ r. ⌜ toldInternalOffset r ≡ sectionSpec (ifPresent «has_original» (now (original .entry))) (self .0) ⌝ }
     {
-        let sections = lent::held(has_original, original);
+        let sections = lent::if_present(has_original, original);
         internal_offset_of(sections::get_section_offset(sections, self.0))
     }
 }
@@ -222,10 +222,10 @@ impl SectionOffset {
         has_to_original: bool,
         to_original: &[u8],
     ) -> ToInternalOffset
-        ensures { λ r. ⌜ toldInternalOffset r ≡ ifTransformed «has_transformed» (placeCrossLocate (now (transformed .entry)) «has_to_original» (now («to_original» .entry)) (held «has_original» (now (original .entry))) (offsetOf self)) (offsetOf self) ⌝ }
+        ensures { λ r. ⌜ toldInternalOffset r ≡ ifTransformed «has_transformed» (placeCrossLocate (now (transformed .entry)) «has_to_original» (now («to_original» .entry)) (ifPresent «has_original» (now (original .entry))) (offsetOf self)) (offsetOf self) ⌝ }
     {
         if has_transformed {
-            let sections = lent::held(has_original, original);
+            let sections = lent::if_present(has_original, original);
             internal_offset_of(paths::place_cross_locate(
                 transformed,
                 has_to_original,
@@ -252,9 +252,9 @@ impl PdbInternalSectionOffset {
         has_to_transformed: bool,
         to_transformed: &[u8],
     ) -> ToRva
-        ensures { λ r. ⌜ toldRva r ≡ placeCross (held «has_original» (now (original .entry))) «has_to_transformed» (now («to_transformed» .entry)) (internalOffsetOf self) ⌝ }
+        ensures { λ r. ⌜ toldRva r ≡ placeCross (ifPresent «has_original» (now (original .entry))) «has_to_transformed» (now («to_transformed» .entry)) (internalOffsetOf self) ⌝ }
     {
-        let sections = lent::held(has_original, original);
+        let sections = lent::if_present(has_original, original);
         rva_of(paths::place_cross(
             sections,
             has_to_transformed,
@@ -266,9 +266,9 @@ impl PdbInternalSectionOffset {
 
     // The address before the image was rearranged.
     pub fn to_internal_rva(self, has_original: bool, original: &[u8]) -> ToInternalRva
-        ensures { λ r. ⌜ toldInternalRva r ≡ addressSpec (held «has_original» (now (original .entry))) (internalOffsetOf self) ⌝ }
+        ensures { λ r. ⌜ toldInternalRva r ≡ addressSpec (ifPresent «has_original» (now (original .entry))) (internalOffsetOf self) ⌝ }
     {
-        let sections = lent::held(has_original, original);
+        let sections = lent::if_present(has_original, original);
         internal_rva_of(sections::get_virtual_address(sections, self.section, self.offset))
     }
 
@@ -282,10 +282,10 @@ impl PdbInternalSectionOffset {
         has_to_transformed: bool,
         to_transformed: &[u8],
     ) -> ToOffset
-        ensures { λ r. ⌜ toldOffset r ≡ ifTransformed «has_transformed» (placeCrossLocate (held «has_original» (now (original .entry))) «has_to_transformed» (now («to_transformed» .entry)) (now (transformed .entry)) (internalOffsetOf self)) (internalOffsetOf self) ⌝ }
+        ensures { λ r. ⌜ toldOffset r ≡ ifTransformed «has_transformed» (placeCrossLocate (ifPresent «has_original» (now (original .entry))) «has_to_transformed» (now («to_transformed» .entry)) (now (transformed .entry)) (internalOffsetOf self)) (internalOffsetOf self) ⌝ }
     {
         if has_transformed {
-            let sections = lent::held(has_original, original);
+            let sections = lent::if_present(has_original, original);
             section_offset_of(paths::place_cross_locate(
                 sections,
                 has_to_transformed,

@@ -20,7 +20,7 @@ pub fn actual_sections<'s>(
     if has_transformed {
         return transformed;
     }
-    lent::held(has_original, original)
+    lent::if_present(has_original, original)
 }
 
 // Through the OMAP, then to a section.

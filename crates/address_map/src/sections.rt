@@ -22,7 +22,7 @@ pub enum Located {
 pub fn get_section_offset(sections: &[u8], address: u32) -> Located
     ensures { λ r. ⌜ toldLocated r ≡ sectionSpec (now (sections .entry)) address ⌝ }
 {
-    let shaped = lent::shape(sections, 40, 65535);
+    let shaped = lent::section_shape(sections);
     if let Checked::Refused(why) = shaped {
         return Located::Refused(why);
     }
@@ -46,7 +46,7 @@ pub fn get_section_offset(sections: &[u8], address: u32) -> Located
 pub fn get_virtual_address(sections: &[u8], section: u16, offset: u32) -> Looked
     ensures { λ r. ⌜ toldLooked r ≡ addressSpec (now (sections .entry)) (record { section = section; offset = offset }) ⌝ }
 {
-    let shaped = lent::shape(sections, 40, 65535);
+    let shaped = lent::section_shape(sections);
     if let Checked::Refused(why) = shaped {
         return Looked::Refused(why);
     }

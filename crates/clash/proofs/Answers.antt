@@ -6,9 +6,9 @@ use native.Mathlib.Omega.{arith}
 use mathlib.Core.Bool.{true, false, cond}
 use mathlib.Core.List.{List}
 use mathlib.Core.Option.{Option, none, some}
-use Rattle.lent.specs.Order.{rising}
+use Rattle.lent.specs.Order.{rising, omapFault}
 use Rattle.lent.specs.Paper.{Told, value, refused, unless}
-use Rattle.omap.specs.Records.{records, sources, omapFault, single}
+use Rattle.omap.specs.Records.{records, sources, single}
 use Rattle.omap.specs.Window.{pieces}
 use Rattle.omap.specs.Output.{allFit}
 use Rattle.omap.specs.Expand.{range}

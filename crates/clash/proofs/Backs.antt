@@ -5,8 +5,9 @@ use Prim.Native.Nat.{ℕ, _+_, _-_, _≤_, _<_}
 use mathlib.Core.Bool.{cond}
 use mathlib.Core.List.{List, [], _∷_, _++_, append-nil}
 use mathlib.Core.Option.{none}
+use Rattle.lent.specs.Words.{put}
 use Rattle.lent.specs.Paper.{Told, refused}
-use Rattle.omap.specs.Window.{Piece, put}
+use Rattle.omap.specs.Window.{Piece}
 use Rattle.omap.specs.Output.{allFit}
 use Rattle.omap.proofs.Pieces.{fit-more, fit-not}
 use Rattle.clash.specs.Clash.{Sources, leastTwo}

@@ -6,13 +6,14 @@ use Prim.Native.Nat.{ℕ}
 use native.Mathlib.Omega.{arith}
 use mathlib.Core.List.{List, [], _∷_, _++_, map}
 use mathlib.Core.Option.{Option, none, some}
+use Rattle.lent.specs.Words.{orElse, put}
 use Rattle.lent.specs.Le.{leAt}
 use Rattle.lent.specs.Paper.{Told, value, nothing, refused, andThen}
 use Rattle.lent.specs.Table.{listed, shapeFault}
-use Rattle.lent.specs.Order.{risingAfter, rising, tableFault}
-use Rattle.omap.specs.Records.{records, orElse, lastAt, moved, single}
+use Rattle.lent.specs.Order.{risingAfter, rising, tableFault, lastAt}
+use Rattle.omap.specs.Records.{records, holderOf, moved, single}
 use Rattle.omap.specs.Lookup.{lookupSpec}
-use Rattle.omap.specs.Window.{nextOf, pieceOf, put, pieces}
+use Rattle.omap.specs.Window.{nextOf, pieceOf, pieces}
 use Rattle.omap.specs.Output.{shown, fits, allFit, flat, roomFor, windowSpec, windowOut}
 use Rattle.omap.specs.Expand.{total}
 use Rattle.omap.proofs.Cases as omap

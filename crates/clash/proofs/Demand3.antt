@@ -8,9 +8,9 @@ use native.Mathlib.Omega.{arith}
 use mathlib.Core.Bool.{true}
 use mathlib.Core.List.{List, [], _∷_}
 use mathlib.Core.Option.{Option, none, some}
-use Rattle.lent.specs.Order.{rising}
+use Rattle.lent.specs.Order.{rising, omapFault}
 use Rattle.lent.specs.Paper.{value, nothing}
-use Rattle.omap.specs.Records.{records, omapFault, single}
+use Rattle.omap.specs.Records.{records, single}
 use Rattle.omap.specs.Lookup.{lookupSpec}
 use Rattle.omap.specs.Window.{pieces}
 use Rattle.omap.specs.Output.{allFit}

@@ -11,13 +11,14 @@ use mathlib.Core.Option.{Option, none, some}
 use lib.ListN.{length}
 use lib.Dec.{ltb}
 use borrow.Author.Tests.{lt-ltb, le-ltb}
+use Rattle.lent.specs.Words.{orElse}
 use Rattle.lent.specs.Le.{leAt}
 use Rattle.lent.specs.Table.{listed}
-use Rattle.lent.specs.Order.{keyAt, keys, rising, UpTo}
+use Rattle.lent.specs.Order.{keyAt, keys, rising, FirstAbove}
 use Rattle.lent.proofs.Rising.{each, in-place}
 use Rattle.lent.proofs.Field.{Bytes, below}
 use Rattle.lent.proofs.Logic.{lt-or-le}
-use Rattle.omap.specs.Records.{entryAt, rest, orElse}
+use Rattle.omap.specs.Records.{entryAt, rest}
 use Rattle.omap.specs.Window.{Piece, nextOf, pieceOf, pieces}
 use Rattle.omap.specs.Part.{partAt}
 use Rattle.omap.proofs.Last.{src}
@@ -49,7 +50,7 @@ past-start s a b i p r e =
     pieces-from s a b (i + 1) (length s / 8 - (i + 1))
     (λ j m l. omega (arith, next-some s (i + 1) (omega arith), in-place (keyAt 8 s) (length s / 8) r (i + 1) j m (omega arith)))
 
-module _ (s : List ℕ) (b last : ℕ) (pos : 0 < b) (u : UpTo 8 s (b - 1) last) where
+module _ (s : List ℕ) (b last : ℕ) (pos : 0 < b) (u : FirstAbove 8 s (b - 1) last) where
   pub none-after : rising (keys 8 s) ≡ true → (a j : ℕ) → last ≤ j → pieces a b (rest s j) ≡ []
   none-after r a j h =
       ⊎-elim

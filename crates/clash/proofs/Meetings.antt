@@ -5,8 +5,8 @@ use Prim.Native.Nat.{ℕ, zero, suc, _+_, _-_, _≤_, _<_}
 use native.Mathlib.Omega.{arith}
 use mathlib.Core.List.{List, [], _∷_}
 use mathlib.Core.Option.{Option, none, some}
-use Rattle.omap.specs.Records.{orElse}
-use Rattle.omap.specs.Window.{Piece, put}
+use Rattle.lent.specs.Words.{orElse, put}
+use Rattle.omap.specs.Window.{Piece}
 use Rattle.clash.specs.Clash.{Pair, pairedOr}
 use Rattle.clash.specs.Meet.{sourceIn, sourcesIn, firstMet}
 use Rattle.clash.proofs.Runs.{source-below, source-past, source-here}

@@ -7,9 +7,10 @@ use mathlib.Core.Bool.{true}
 use mathlib.Core.List.{List, [], _∷_}
 use mathlib.Core.Option.{Option, none, some}
 use lib.ListN.{length}
+use Rattle.lent.specs.Words.{orElse, put}
 use Rattle.lent.specs.Order.{rising, keys}
-use Rattle.omap.specs.Records.{Entry, entryAt, rest, orElse}
-use Rattle.omap.specs.Window.{Piece, nextOf, put, pieces}
+use Rattle.omap.specs.Records.{Entry, entryAt, rest}
+use Rattle.omap.specs.Window.{Piece, nextOf, pieces}
 use Rattle.omap.specs.Part.{partAt}
 use Rattle.omap.proofs.Last.{src}
 use Rattle.omap.proofs.Pieces.{piece-empty, piece-is, step-some}

@@ -10,10 +10,11 @@ use mathlib.Core.List.{List, [], _∷_, _++_}
 use mathlib.Core.Option.{Option, none, some}
 use lib.Dec.{leb}
 use borrow.Author.Tests.{lt-ltb, le-ltb, le-leb, lt-leb, eq-eqb, ne-eqb}
+use Rattle.lent.specs.Words.{orElse, put}
 use Rattle.lent.specs.Order.{rising}
 use Rattle.lent.proofs.Logic.{lt-or-le}
-use Rattle.omap.specs.Records.{Entry, sources, orElse, single}
-use Rattle.omap.specs.Window.{Piece, put, pieces}
+use Rattle.omap.specs.Records.{Entry, sources, single}
+use Rattle.omap.specs.Window.{Piece, pieces}
 use Rattle.omap.specs.Expand.{range}
 use Rattle.clash.specs.Clash.{sourcesOf, Pair, pairedOr, firstClash}
 use Rattle.clash.specs.Meet.{sourceIn, sourcesIn, firstMet, fromPiece, clashOf}

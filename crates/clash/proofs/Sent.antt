@@ -9,11 +9,12 @@ use mathlib.Core.Bool.{true, cond}
 use mathlib.Core.List.{List, [], _∷_, _++_}
 use mathlib.Core.Option.{Option, none, some}
 use lib.Dec.{eqb}
-use Rattle.lent.specs.Order.{risingAfter, rising}
+use Rattle.lent.specs.Words.{put}
+use Rattle.lent.specs.Order.{risingAfter, rising, lastAt}
 use Rattle.lent.proofs.Rising.{after-rising}
 use Rattle.lent.proofs.Logic.{lt-or-le}
-use Rattle.omap.specs.Records.{Entry, sources, lastAt, moved, single}
-use Rattle.omap.specs.Window.{Piece, nextOf, put, pieces}
+use Rattle.omap.specs.Records.{Entry, sources, holderOf, moved, single}
+use Rattle.omap.specs.Window.{Piece, nextOf, pieces}
 use Rattle.omap.specs.Expand.{upFrom, range}
 use Rattle.omap.proofs.Pieces.{piece-empty, piece-zero, piece-some}
 use Rattle.omap.proofs.Expansion.{range-split, single-rest, single-below, single-moved, after-same, no-piece}

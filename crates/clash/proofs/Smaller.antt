@@ -8,9 +8,10 @@ use native.Mathlib.Omega.{arith}
 use mathlib.Core.Bool.{true}
 use mathlib.Core.List.{List, [], _∷_}
 use borrow.Author.Tests.{leb-true}
+use Rattle.lent.specs.Words.{put}
 use Rattle.lent.proofs.Logic.{lt-or-le, and-left, and-right}
 use Rattle.omap.specs.Records.{Entry}
-use Rattle.omap.specs.Window.{Piece, nextOf, pieceOf, put, pieces}
+use Rattle.omap.specs.Window.{Piece, nextOf, pieceOf, pieces}
 use Rattle.omap.specs.Output.{shown, fits, allFit}
 use Rattle.omap.proofs.Pieces.{piece-empty, piece-zero, piece-some, fit-more}
 use Rattle.clash.specs.Meet.{sourcesIn}

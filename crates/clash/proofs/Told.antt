@@ -7,10 +7,9 @@ use native.Mathlib.Omega.{arith}
 use mathlib.Core.Bool.{Bool, true, false, cond}
 use mathlib.Core.List.{List, [], _∷_}
 use mathlib.Core.Option.{Option, none, some}
-use Rattle.lent.specs.Paper.{value, nothing, refused, unless}
+use Rattle.lent.specs.Paper.{value, nothing, refused, unless, fitted}
 use Rattle.lent.proofs.Logic.{lt-or-le}
 use lib.Dec.{leb}
-use Rattle.omap.specs.Lookup.{fitted}
 use Rattle.omap.specs.Expand.{range}
 use Rattle.clash.specs.Clash.{Pair, one, two, sourcesOf, leastTwo}
 use Rattle.clash.specs.Demand.{Source, Clash, LeastClash, OneSource, TwoSources}

@@ -4,8 +4,9 @@ use mathlib.Core.Bool.{Bool, false, cond}
 use mathlib.Core.List.{List, [], _∷_}
 use mathlib.Core.Option.{Option, none, some}
 use lib.Dec.{eqb}
+use Rattle.lent.specs.Order.{omapFault}
 use Rattle.lent.specs.Paper.{Told, value, nothing, refused, unless, number}
-use Rattle.omap.specs.Records.{records, omapFault, single}
+use Rattle.omap.specs.Records.{records, single}
 use Rattle.omap.specs.Window.{pieces}
 use Rattle.omap.specs.Output.{allFit}
 use Rattle.omap.specs.Expand.{range}

@@ -4,9 +4,9 @@ use mathlib.Core.Bool.{cond, _&&_}
 use mathlib.Core.List.{List, [], _∷_}
 use mathlib.Core.Option.{Option, none, some}
 use lib.Dec.{leb, ltb}
+use Rattle.lent.specs.Words.{orElse, put}
 use Rattle.lent.specs.Paper.{Told, refused}
-use Rattle.omap.specs.Records.{orElse}
-use Rattle.omap.specs.Window.{Piece, put}
+use Rattle.omap.specs.Window.{Piece}
 use Rattle.omap.specs.Output.{allFit}
 use Rattle.clash.specs.Clash.{Pair, pairedOr, Sources, leastTwo}
 use Rattle.clash.specs.declared.Met.{Met}

@@ -4,7 +4,7 @@ ghost use mathlib.Core.Bool.{true};
 ghost use mathlib.Core.List.{List, _∷_, _++_};
 ghost use Prim.Native.Nat.{ℕ, _+_, _-_, _<_, min};
 ghost use Rattle.lent.specs.Paper.{value};
-ghost use Rattle.lent.specs.Order.{rising, keys, UpTo};
+ghost use Rattle.lent.specs.Order.{rising, keys, FirstAbove};
 ghost use Rattle.omap.specs.Records.{records, rest};
 ghost use Rattle.omap.specs.Window.{nextOf, pieces};
 ghost use Rattle.clash.specs.Clash.{toldClashed, clashSpec, toldBack, backSpec, leastTwo};
@@ -51,7 +51,7 @@ enum Found {
 
 // Where the addresses of record i below b end, with `last` records that begin below b.
 fn end_in(table: &[u8], i: usize, last: usize, b: u32) -> u64
-    requires { ⌜ (i < last) × ((0 < b) × UpTo 8 (now table) (b - 1) last) ⌝ }
+    requires { ⌜ (i < last) × ((0 < b) × FirstAbove 8 (now table) (b - 1) last) ⌝ }
     ensures { λ r. ⌜ r ≡ min b (nextOf (rest (now (table .entry)) (i + 1))) ⌝ }
 {
     if i + 1 < last {
@@ -64,7 +64,7 @@ fn end_in(table: &[u8], i: usize, last: usize, b: u32) -> u64
 // The first of the targets from..end to which a record from place `start` on takes an address below b.
 // A record costs one comparison if its target is not below what is found already.
 fn meet(table: &[u8], start: usize, last: usize, b: u32, from: u64, end: u64) -> Met
-    requires { ⌜ (rising (keys 8 (now table)) ≡ true) × ((0 < b) × ((UpTo 8 (now table) (b - 1) last) × (from < end))) ⌝ }
+    requires { ⌜ (rising (keys 8 (now table)) ≡ true) × ((0 < b) × ((FirstAbove 8 (now table) (b - 1) last) × (from < end))) ⌝ }
     ensures { λ r. ⌜ toldMet r ≡ firstMet (pieces 0 b (rest (now (table .entry)) start)) from (end - from) ⌝ }
 {
     let mut j = start;
@@ -109,7 +109,7 @@ fn least_pair(table: &[u8], a: u32, b: u32) -> Clashed
     if b <= a {
         return Clashed::Single;
     }
-    let last = lent::up_to(table, 8, b - 1);
+    let last = lent::first_above(table, 8, b - 1);
     let mut j = omap::window::first_at(table, a);
     while j < last {
         let i = j;
@@ -135,7 +135,7 @@ fn least_pair(table: &[u8], a: u32, b: u32) -> Clashed
 pub fn clash(table: &[u8], a: u32, b: u32) -> Clashed
     ensures { λ r. ⌜ toldClashed r ≡ clashSpec (now (table .entry)) a b ⌝ }
 {
-    let checked = lent::check(table, 8, 1048576);
+    let checked = lent::omap_check(table);
     if let Checked::Refused(why) = checked {
         return Clashed::Refused(why);
     }
@@ -203,7 +203,7 @@ fn sources(table: &[u8], a: u32, b: u32, t: u32) -> Back
 pub fn way_back(table: &[u8], a: u32, b: u32, t: u32) -> Back
     ensures { λ r. ⌜ toldBack r ≡ backSpec (now (table .entry)) a b t ⌝ }
 {
-    let checked = lent::check(table, 8, 1048576);
+    let checked = lent::omap_check(table);
     if let Checked::Refused(why) = checked {
         return Back::Refused(why);
     }

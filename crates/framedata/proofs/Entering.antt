@@ -12,7 +12,7 @@ use lib.ListN.{length}
 use borrow.Author.Tests.{lt-ltb, le-ltb, le-leb, lt-leb, eq-eqb, ne-eqb}
 use Rattle.lent.specs.Paper.{firstOf}
 use Rattle.lent.specs.Table.{listed, shapeFault}
-use Rattle.lent.specs.Order.{rising, keys, tableFault, UpTo}
+use Rattle.lent.specs.Order.{rising, keys, tableFault, FirstAbove}
 use Rattle.framedata.specs.Start.{Block, blockAt, blocks, lastAt, placeSpec, faultOfBoth}
 
 module _ (f : ℕ → Block) (a : ℕ) where
@@ -37,11 +37,11 @@ module _ (f : ℕ → Block) (a : ℕ) where
 
 module _ (w : ℕ) (s : List ℕ) (a : ℕ) where
   -- before the first block
-  pub enter-first : UpTo w s a 0 → placeSpec a (blocks w s) ≡ 0
+  pub enter-first : FirstAbove w s a 0 → placeSpec a (blocks w s) ≡ 0
   unfolding placeSpec
   enter-first u = rw (last-none (blockAt w s) a 0 (length s / w) (λ j h l. u .above j h (omega arith)))
 
-  module _ (k : ℕ) (pos : 0 < k) (u : UpTo w s a k) where
+  module _ (k : ℕ) (pos : 0 < k) (u : FirstAbove w s a k) where
     abbrev x : Block
     x = blockAt w s (k - 1)
 

@@ -9,7 +9,7 @@ use mathlib.Core.Bool.{true}
 use mathlib.Core.List.{List}
 use lib.ListN.{length}
 use borrow.Author.Tests.{lt-ltb, eq-eqb, ne-eqb}
-use Rattle.lent.specs.Order.{rising, keys, keyAt, UpTo}
+use Rattle.lent.specs.Order.{rising, keys, keyAt, FirstAbove}
 use Rattle.lent.proofs.Logic.{lt-or-le}
 use Rattle.lent.proofs.Rising.{each, in-place}
 use Rattle.framedata.specs.Start.{Block, blockAt, blocks, covers, placeSpec, Entered}
@@ -38,13 +38,13 @@ module _ (w : ℕ) (s : List ℕ) (a : ℕ) (r : rising (keys w s) ≡ true) whe
       (lt-or-le a (f m))
 
   -- how many keys are at most a
-  counted : (k : ℕ) × UpTo w s a k
+  counted : (k : ℕ) × FirstAbove w s a k
   counted = let c = split n (omega arith) in (c .0, record { within = c .1; below = c .2; above = c .3 })
 
-  from-first : UpTo w s a 0 → Entered w s a 0
+  from-first : FirstAbove w s a 0 → Entered w s a 0
   from-first u = record { before = λ j h. absurd (omega arith); there = λ h. inr (u .above 0 (omega arith) h); after = λ j h l. u .above j (omega arith) l }
 
-  module _ (k : ℕ) (pos : 0 < k) (u : UpTo w s a k) where
+  module _ (k : ℕ) (pos : 0 < k) (u : FirstAbove w s a k) where
     abbrev x : Block
     x = blockAt w s (k - 1)
 
@@ -90,7 +90,7 @@ module _ (w : ℕ) (s : List ℕ) (a : ℕ) (r : rising (keys w s) ≡ true) whe
       let c = counted in
       ⊎-elim
       (λ (e : c .0 ≡ 0).
-      let u : UpTo w s a 0 = subst (UpTo w s a) e (c .1) in
+      let u : FirstAbove w s a 0 = subst (FirstAbove w s a) e (c .1) in
       subst (Entered w s a) (sym (enter-first w s a u)) (from-first u))
       (λ (h : 0 < c .0). by-cases (c .0) h (c .1))
       (eq-zero-or-pos (c .0))

@@ -1,6 +1,6 @@
 // The merged iteration over both tables, in order of code start.
 ghost use mathlib.Core.Path.{_≡_};
-ghost use Rattle.lent.specs.Table.{held};
+ghost use Rattle.lent.specs.Table.{ifPresent};
 ghost use Rattle.framedata.specs.Records.{oldRecord, newRecord, oldAt, newAt};
 ghost use Rattle.framedata.specs.Step.{atStart, pick, stepSpec, toldStep, toldNext};
 use crate::frame::Decoded;
@@ -78,10 +78,10 @@ impl FrameCursor {
     // The next frame in order of code start, from either table. Where both tables have a frame with
     // one code start, the new one is yielded alone. A table that is marked absent counts as empty.
     pub fn step(mut self, old_present: bool, old: &[u8], new_present: bool, new: &[u8]) -> FrameStep
-        ensures { λ r. ⌜ toldStep r ≡ stepSpec (held «old_present» (now (old .entry))) (held «new_present» (now (new .entry))) self ⌝ }
+        ensures { λ r. ⌜ toldStep r ≡ stepSpec (ifPresent «old_present» (now (old .entry))) (ifPresent «new_present» (now (new .entry))) self ⌝ }
     {
-        let olds = lent::held(old_present, old);
-        let news = lent::held(new_present, new);
+        let olds = lent::if_present(old_present, old);
+        let news = lent::if_present(new_present, new);
         let shaped = shapes(olds, news);
         if let Checked::Refused(why) = shaped {
             return FrameStep::Refused(why, self);

@@ -131,7 +131,7 @@ pub fn new_frame(table: &[u8], place: usize) -> FrameData
 pub fn old_frame_at(table: &[u8], place: usize) -> Framed
     ensures { λ r. ⌜ toldFramed r ≡ oldFrameSpec (now (table .entry)) place ⌝ }
 {
-    let shaped = lent::shape(table, OLD, MOST);
+    let shaped = lent::old_frame_shape(table);
     if let Checked::Refused(why) = shaped {
         return Framed::Refused(why);
     }
@@ -149,7 +149,7 @@ pub fn old_frame_at(table: &[u8], place: usize) -> Framed
 pub fn new_frame_at(table: &[u8], place: usize) -> Framed
     ensures { λ r. ⌜ toldFramed r ≡ newFrameSpec (now (table .entry)) place ⌝ }
 {
-    let shaped = lent::shape(table, NEW, MOST);
+    let shaped = lent::new_frame_shape(table);
     if let Checked::Refused(why) = shaped {
         return Framed::Refused(why);
     }

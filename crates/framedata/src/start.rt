@@ -3,7 +3,7 @@ ghost use mathlib.Core.Path.{_≡_};
 ghost use mathlib.Core.Bool.{true};
 ghost use Prim.Native.Nat.{_≤_};
 ghost use Rattle.lent.specs.Paper.{toldChecked};
-ghost use Rattle.lent.specs.Table.{held};
+ghost use Rattle.lent.specs.Table.{ifPresent};
 ghost use Rattle.lent.specs.Order.{rising, keys};
 ghost use Rattle.framedata.specs.Start.{blocks, placeSpec, faultOfBoth, startSpec, toldStarted};
 use crate::cursor::FrameCursor;
@@ -23,11 +23,11 @@ pub enum FrameStarted {
 fn checks(old: &[u8], new: &[u8]) -> Checked
     ensures { λ r. ⌜ toldChecked r ≡ faultOfBoth (now (old .entry)) (now (new .entry)) ⌝ }
 {
-    let checked = lent::check(old, OLD, MOST);
+    let checked = lent::old_frame_check(old);
     if let Checked::Refused(why) = checked {
         return Checked::Refused(why);
     }
-    lent::check(new, NEW, MOST)
+    lent::new_frame_check(new)
 }
 
 // Where one table in order, of either kind, is entered for an address.
@@ -35,7 +35,7 @@ fn place_at(table: &[u8], width: usize, address: u32) -> usize
     requires { ⌜ (8 ≤ width) × (rising (keys width (now table)) ≡ true) ⌝ }
     ensures { λ r. ⌜ r ≡ placeSpec address (blocks width (now (table .entry))) ⌝ }
 {
-    let after = lent::up_to(table, width, address);
+    let after = lent::first_above(table, width, address);
     if after == 0 {
         return 0;
     }
@@ -60,10 +60,10 @@ pub fn start_at(
     new_present: bool,
     new: &[u8],
 ) -> FrameStarted
-    ensures { λ r. ⌜ toldStarted r ≡ startSpec address (held «old_present» (now (old .entry))) (held «new_present» (now (new .entry))) ⌝ }
+    ensures { λ r. ⌜ toldStarted r ≡ startSpec address (ifPresent «old_present» (now (old .entry))) (ifPresent «new_present» (now (new .entry))) ⌝ }
 {
-    let olds = lent::held(old_present, old);
-    let news = lent::held(new_present, new);
+    let olds = lent::if_present(old_present, old);
+    let news = lent::if_present(new_present, new);
     let checked = checks(olds, news);
     if let Checked::Refused(why) = checked {
         return FrameStarted::Refused(why);

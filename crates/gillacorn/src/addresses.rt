@@ -1,7 +1,7 @@
 // Sections and the conversions of an address map. Each conversion is lent all four tables of the map,
 // behind their marks, and hands on those on its path.
 ghost use mathlib.Core.Path.{_≡_};
-ghost use Rattle.lent.specs.Table.{held};
+ghost use Rattle.lent.specs.Table.{ifPresent};
 ghost use Rattle.omap.specs.Lookup.{lookupSpec};
 ghost use Rattle.address_map.specs.Sections.{sectionSpec, addressSpec, toldLocated};
 ghost use Rattle.address_map.specs.Paths.{actual, crossLocate, placeCross, placeCrossLocate, ifTransformed};
@@ -217,7 +217,7 @@ pub extern "C" fn gillacorn_rva_to_internal_offset<'s>(
     has_to_transformed: bool,
     to_transformed: &'s [u8],
 ) -> OffsetAnswer
-    ensures { λ r. ⌜ r ≡ offsetAnswer (crossLocate «has_to_original» (now («to_original» .entry)) (held «has_original_sections» (now («original_sections» .entry))) rva) ⌝ }
+    ensures { λ r. ⌜ r ≡ offsetAnswer (crossLocate «has_to_original» (now («to_original» .entry)) (ifPresent «has_original_sections» (now («original_sections» .entry))) rva) ⌝ }
 {
     let from = Rva(rva);
     internal_offset_answer(from.to_internal_offset(
@@ -283,7 +283,7 @@ pub extern "C" fn gillacorn_internal_rva_to_internal_offset<'s>(
     has_to_transformed: bool,
     to_transformed: &'s [u8],
 ) -> OffsetAnswer
-    ensures { λ r. ⌜ r ≡ offsetAnswer (sectionSpec (held «has_original_sections» (now («original_sections» .entry))) rva) ⌝ }
+    ensures { λ r. ⌜ r ≡ offsetAnswer (sectionSpec (ifPresent «has_original_sections» (now («original_sections» .entry))) rva) ⌝ }
 {
     let from = PdbInternalRva(rva);
     internal_offset_answer(from.to_internal_offset(has_original_sections, original_sections))
@@ -352,7 +352,7 @@ pub extern "C" fn gillacorn_offset_to_internal_offset<'s>(
     has_to_transformed: bool,
     to_transformed: &'s [u8],
 ) -> OffsetAnswer
-    ensures { λ r. ⌜ r ≡ offsetAnswer (ifTransformed «has_transformed_sections» (placeCrossLocate (now («transformed_sections» .entry)) «has_to_original» (now («to_original» .entry)) (held «has_original_sections» (now («original_sections» .entry))) (record { section = section; offset = offset })) (record { section = section; offset = offset })) ⌝ }
+    ensures { λ r. ⌜ r ≡ offsetAnswer (ifTransformed «has_transformed_sections» (placeCrossLocate (now («transformed_sections» .entry)) «has_to_original» (now («to_original» .entry)) (ifPresent «has_original_sections» (now («original_sections» .entry))) (record { section = section; offset = offset })) (record { section = section; offset = offset })) ⌝ }
 {
     let from = SectionOffset { offset, section };
     internal_offset_answer(from.to_internal_offset(
@@ -378,7 +378,7 @@ pub extern "C" fn gillacorn_internal_offset_to_rva<'s>(
     has_to_transformed: bool,
     to_transformed: &'s [u8],
 ) -> Value
-    ensures { λ r. ⌜ r ≡ valueOf (placeCross (held «has_original_sections» (now («original_sections» .entry))) «has_to_transformed» (now («to_transformed» .entry)) (record { section = section; offset = offset })) ⌝ }
+    ensures { λ r. ⌜ r ≡ valueOf (placeCross (ifPresent «has_original_sections» (now («original_sections» .entry))) «has_to_transformed» (now («to_transformed» .entry)) (record { section = section; offset = offset })) ⌝ }
 {
     let from = PdbInternalSectionOffset { offset, section };
     rva_value(from.to_rva(
@@ -402,7 +402,7 @@ pub extern "C" fn gillacorn_internal_offset_to_internal_rva<'s>(
     has_to_transformed: bool,
     to_transformed: &'s [u8],
 ) -> Value
-    ensures { λ r. ⌜ r ≡ valueOf (addressSpec (held «has_original_sections» (now («original_sections» .entry))) (record { section = section; offset = offset })) ⌝ }
+    ensures { λ r. ⌜ r ≡ valueOf (addressSpec (ifPresent «has_original_sections» (now («original_sections» .entry))) (record { section = section; offset = offset })) ⌝ }
 {
     let from = PdbInternalSectionOffset { offset, section };
     internal_rva_value(from.to_internal_rva(has_original_sections, original_sections))
@@ -421,7 +421,7 @@ pub extern "C" fn gillacorn_internal_offset_to_section_offset<'s>(
     has_to_transformed: bool,
     to_transformed: &'s [u8],
 ) -> OffsetAnswer
-    ensures { λ r. ⌜ r ≡ offsetAnswer (ifTransformed «has_transformed_sections» (placeCrossLocate (held «has_original_sections» (now («original_sections» .entry))) «has_to_transformed» (now («to_transformed» .entry)) (now («transformed_sections» .entry)) (record { section = section; offset = offset })) (record { section = section; offset = offset })) ⌝ }
+    ensures { λ r. ⌜ r ≡ offsetAnswer (ifTransformed «has_transformed_sections» (placeCrossLocate (ifPresent «has_original_sections» (now («original_sections» .entry))) «has_to_transformed» (now («to_transformed» .entry)) (now («transformed_sections» .entry)) (record { section = section; offset = offset })) (record { section = section; offset = offset })) ⌝ }
 {
     let from = PdbInternalSectionOffset { offset, section };
     section_offset_answer(from.to_section_offset(

@@ -1,6 +1,6 @@
 // Frames, one by one and merged.
 ghost use mathlib.Core.Path.{_≡_};
-ghost use Rattle.lent.specs.Table.{held};
+ghost use Rattle.lent.specs.Table.{ifPresent};
 ghost use Rattle.framedata.specs.Attributes.{typeNumber};
 ghost use Rattle.framedata.specs.Frame.{toldFrame, toldFramed, toldStack, toldProgram, oldFrameSpec, newFrameSpec};
 ghost use Rattle.framedata.specs.Step.{toldStep, stepSpec};
@@ -254,7 +254,7 @@ pub extern "C" fn gillacorn_frame_next(
     has_new: bool,
     new_frames: &[u8],
 ) -> FrameStepping
-    ensures { λ r. ⌜ r ≡ frameStepOf (stepSpec (held «has_old» (now («old_frames» .entry))) (held «has_new» (now («new_frames» .entry))) cursor) ⌝ }
+    ensures { λ r. ⌜ r ≡ frameStepOf (stepSpec (ifPresent «has_old» (now («old_frames» .entry))) (ifPresent «has_new» (now («new_frames» .entry))) cursor) ⌝ }
 {
     frame_step_of(cursor.step(has_old, old_frames, has_new, new_frames))
 }
@@ -267,7 +267,7 @@ pub extern "C" fn gillacorn_frames_at(
     has_new: bool,
     new_frames: &[u8],
 ) -> FrameStarting
-    ensures { λ r. ⌜ r ≡ startingOf (startSpec address (held «has_old» (now («old_frames» .entry))) (held «has_new» (now («new_frames» .entry)))) ⌝ }
+    ensures { λ r. ⌜ r ≡ startingOf (startSpec address (ifPresent «has_old» (now («old_frames» .entry))) (ifPresent «has_new» (now («new_frames» .entry)))) ⌝ }
 {
     starting_of(framedata::start_at(address, has_old, old_frames, has_new, new_frames))
 }
@@ -279,7 +279,7 @@ pub extern "C" fn gillacorn_frames_empty(
     has_new: bool,
     new_frames: &[u8],
 ) -> Value
-    ensures { λ r. ⌜ r ≡ yesOf (emptySpec (held «has_old» (now («old_frames» .entry))) (held «has_new» (now («new_frames» .entry)))) ⌝ }
+    ensures { λ r. ⌜ r ≡ yesOf (emptySpec (ifPresent «has_old» (now («old_frames» .entry))) (ifPresent «has_new» (now («new_frames» .entry)))) ⌝ }
 {
     yes_of(framedata::is_empty(has_old, old_frames, has_new, new_frames))
 }

@@ -1,8 +1,9 @@
--- The decoding fact, over the field's width: a field of w bytes is below 256 ^ w, and one byte more below a field is a wider field.
+-- The decoding fact, over the field's width: a field of w bytes is below 256 ^ w. The widths that the code reads follow.
 -- Assumes nothing.
 use mathlib.Core.Path.{_≡_}
 use Prim.Native.Nat.{ℕ, zero, suc, _+_, _-_, _*_, _^_, _≤_, _<_}
 use native.Mathlib.Nat.{pow-suc, pow-zero}
+use native.Mathlib.Numerals.{add-one, add-two}
 use native.Mathlib.Omega.{arith}
 use mathlib.Core.List.{List}
 use lib.ListN.{getD}
@@ -18,10 +19,15 @@ unfolding leAt
 below zero s at b = omega (arith, pow-zero 256)
 below (suc w) s at b = omega (arith, below w s (suc at) b, b at, pow-suc 256 w)
 
-pub step : (s : List ℕ) (at width k : ℕ) → 0 < k → k ≤ width
-    → leAt (width - (k - 1)) s (at + (k - 1)) ≡ leAt (width - k) s (at + k) * 256 + getD s (at + (k - 1)) 0
-unfolding leAt
-step s at width k h l =
-    let e : width - (k - 1) ≡ suc (width - k) = omega arith in
-    let f : at + k ≡ suc (at + (k - 1)) = omega arith in
-    rw (e, f) (omega arith)
+add-three : (n : ℕ) → n + 3 ≡ suc (suc (suc n))
+add-three n = omega arith
+
+-- a field as a flat sum of its bytes
+module _ (s : List ℕ) (at : ℕ) where
+  pub two-bytes : leAt 2 s at ≡ getD s at 0 + getD s (at + 1) 0 * 256
+  unfolding leAt
+  two-bytes = rw add-one (omega arith)
+
+  pub four-bytes : leAt 4 s at ≡ getD s at 0 + getD s (at + 1) 0 * 256 + getD s (at + 2) 0 * 65536 + getD s (at + 3) 0 * 16777216
+  unfolding leAt
+  four-bytes = rw (add-one, add-two, add-three at) (omega arith)

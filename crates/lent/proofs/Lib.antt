@@ -1,6 +1,9 @@
 pub mod Field
 pub mod Place
 pub mod Rising
+pub mod Search
+pub mod Last
 pub mod Logic
+pub mod Answers
 pub mod Determined
 pub mod Shaped

@@ -5,10 +5,11 @@ use mathlib.Core.Logic.{⊎-elim}
 use Prim.Native.Nat.{ℕ, zero, suc, _+_, _-_, _≤_, _<_}
 use native.Mathlib.Nat.{eq-or-lt-of-le}
 use native.Mathlib.Omega.{arith}
-use mathlib.Core.Bool.{true, false}
+use mathlib.Core.Bool.{Bool, true, false, cond, _&&_, and-false}
 use mathlib.Core.List.{List, [], _∷_}
-use lib.Dec.{ltb}
-use borrow.Author.Tests.{lt-ltb, le-ltb, ltb-true}
+use lib.Bits.{bitOr, or-step, or-zero-r}
+use lib.Dec.{ltb, eqb}
+use borrow.Author.Tests.{ne-eqb, ltb-true}
 use Rattle.lent.specs.Table.{listed}
 use Rattle.lent.specs.Order.{risingAfter, rising}
 use Rattle.lent.proofs.Logic.{and-left, and-right}
@@ -20,15 +21,19 @@ unfolding risingAfter rising
 after-rising p [] r = refl
 after-rising p (x ∷ l) r = and-right (ltb p x) (risingAfter x l) r
 
+one-of-two : (fault : ℕ) → eqb (bitOr fault 1) 0 ≡ false
+one-of-two fault = ne-eqb (bitOr fault 1) 0 (λ z. omega (arith, or-step fault 1))
+
+regrouped : (fault : ℕ) (t u : Bool) → (eqb fault 0 && (t && u)) ≡ (eqb (bitOr fault (cond t 0 1)) 0 && u)
+regrouped fault true u = rw (or-zero-r fault)
+regrouped fault false u = rw (one-of-two fault, and-false (eqb fault 0))
+
 module _ (f : ℕ → ℕ) where
   module _ (i n p : ℕ) (h : i < n) where
-    pub after-up : p < f i → risingAfter p (listed f i (n - i)) ≡ risingAfter (f i) (listed f (i + 1) (n - (i + 1)))
+    -- the order of the numbers left, by the first of them; a fault, once found, stays
+    pub after-step : (fault : ℕ) → (eqb fault 0 && risingAfter p (listed f i (n - i))) ≡ (eqb (bitOr fault (cond (ltb p (f i)) 0 1)) 0 && risingAfter (f i) (listed f (i + 1) (n - (i + 1))))
     unfolding risingAfter
-    after-up l = rw (listed-step f i n h, lt-ltb p (f i) l)
-
-    pub after-down : f i ≤ p → risingAfter p (listed f i (n - i)) ≡ false
-    unfolding risingAfter
-    after-down l = rw (listed-step f i n h, le-ltb p (f i) l)
+    after-step fault = rw (listed-step f i n h) (regrouped fault (ltb p (f i)) (risingAfter (f i) (listed f (i + 1) (n - (i + 1)))))
 
   -- the order of all is that of those after the first
   pub rising-first : (n : ℕ) → 0 < n → rising (listed f 0 n) ≡ risingAfter (f 0) (listed f 1 (n - 1))

@@ -1,4 +1,5 @@
 pub mod Le
+pub mod Words
 pub mod Paper
 pub mod Table
 pub mod Order

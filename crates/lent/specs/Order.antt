@@ -4,10 +4,11 @@ use mathlib.Core.Bool.{Bool, true, cond, _&&_}
 use mathlib.Core.List.{List, [], _∷_}
 use mathlib.Core.Option.{Option, none, some}
 use lib.ListN.{length}
-use lib.Dec.{ltb}
+use lib.Dec.{ltb, leb}
 use Rattle.lent.specs.Le.{leAt}
 use Rattle.lent.specs.Paper.{firstOf}
-use Rattle.lent.specs.Table.{listed, shapeFault}
+use Rattle.lent.specs.Table.{listed, Kind, omapTable, oldFrameTable, newFrameTable, shapeFault}
+use Rattle.lent.specs.Words.{orElse}
 
 -- each number is greater than the one before it, the first than p
 unfoldable pub risingAfter : ℕ → List ℕ → Bool
@@ -32,11 +33,25 @@ abbrev pub orderFault : ℕ → List ℕ → Option ℕ
 orderFault w s = cond (rising (keys w s)) none (some 3)
 
 -- 1, then 2, then 3
-unfoldable pub tableFault : ℕ → ℕ → List ℕ → Option ℕ
-tableFault w most s = firstOf (shapeFault w most s) (orderFault w s)
+unfoldable pub tableFault : Kind → List ℕ → Option ℕ
+tableFault k s = firstOf (shapeFault k s) (orderFault (k .width) s)
 
--- the records before place r, and no others, have a key of at most a
-pub record UpTo (w : ℕ) (s : List ℕ) (a r : ℕ) : Type 0 where
+abbrev pub omapFault : List ℕ → Option ℕ
+omapFault = tableFault omapTable
+
+abbrev pub oldFrameFault : List ℕ → Option ℕ
+oldFrameFault = tableFault oldFrameTable
+
+abbrev pub newFrameFault : List ℕ → Option ℕ
+newFrameFault = tableFault newFrameTable
+
+-- the last element whose key is at most a
+unfoldable pub lastAt : {A : Type 0} → (A → ℕ) → ℕ → List A → Option A
+lastAt key a [] = none
+lastAt key a (x ∷ l) = orElse (lastAt key a l) (cond (leb (key x) a) (some x) none)
+
+-- r is the place of the first record whose key is above a: those before it, and no others, have a key of at most a
+pub record FirstAbove (w : ℕ) (s : List ℕ) (a r : ℕ) : Type 0 where
   pub within : r ≤ length s / w
   pub below : (j : ℕ) → j < r → keyAt w s j ≤ a
   pub above : (j : ℕ) → r ≤ j → j < length s / w → a < keyAt w s j

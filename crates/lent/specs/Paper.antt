@@ -1,6 +1,8 @@
 -- What document 01 lets an operation answer: a value, none, or a refusal by its number.
 use Prim.Native.Nat.{ℕ}
+use mathlib.Core.Bool.{cond}
 use mathlib.Core.Option.{Option, none, some}
+use lib.Dec.{leb}
 use Rattle.lent.specs.declared.Refusal.{Refusal}
 use Rattle.lent.specs.declared.Refusal.the-variants.{Length, Count, Order}
 use Rattle.lent.specs.declared.Checked.{Checked}
@@ -26,6 +28,11 @@ abbrev pub andThen : {A B : Type 0} → Told A → (A → Told B) → Told B
 andThen (value x) f = f x
 andThen nothing f = nothing
 andThen (refused n) f = refused n
+
+-- a number that may be missing: 4 if it does not fit 32 bits
+abbrev pub fitted : Option ℕ → Told ℕ
+fitted none = nothing
+fitted (some t) = cond (leb t 4294967295) (value t) (refused 4)
 
 -- the paper's number of each refusal that a table can give
 abbrev pub number : Refusal → ℕ

@@ -1,13 +1,14 @@
-// Tables in lent bytes: their little-endian fields, and the refusals 1, 2 and 3 that a table gives.
+// Tables in lent bytes: their little-endian fields, the refusals 1, 2 and 3 that a table gives, and the search by halving.
 // Everything above decodes through this crate; nothing else knows of bytes.
 ghost use mathlib.Core.Path.{_≡_};
-ghost use mathlib.Core.Bool.{true};
-ghost use Prim.Native.Nat.{_+_, _≤_, _<_};
+ghost use mathlib.Core.Bool.{true, cond};
+ghost use Prim.Native.Nat.{_+_, _≤_, _<_, min, max};
 ghost use lib.ListN.{length};
+ghost use lib.Dec.{ltb};
 ghost use Rattle.lent.specs.Le.{leAt};
-ghost use Rattle.lent.specs.Paper.{toldChecked};
-ghost use Rattle.lent.specs.Table.{shapeFault, held};
-ghost use Rattle.lent.specs.Order.{rising, keys, tableFault, UpTo};
+ghost use Rattle.lent.specs.Paper.{number, toldChecked};
+ghost use Rattle.lent.specs.Table.{shapeFault, ifPresent, omapShape, sectionShape, oldFrameShape, newFrameShape};
+ghost use Rattle.lent.specs.Order.{rising, keys, tableFault, omapFault, oldFrameFault, newFrameFault, FirstAbove};
 
 // Why a table is refused: document 01's numbers 1, 2 and 3.
 pub enum Refusal {
@@ -19,37 +20,71 @@ pub enum Refusal {
     Order,
 }
 
+// The numbers of the refusals that no table gives by itself.
+// 4: a sum or product exceeds 32 bits.
+pub const TOO_LARGE: u32 = 4;
+
+// 5: the lent output is too short.
+pub const SHORT: u32 = 5;
+
+// 6: a piece begins before its record's source.
+pub const EARLY: u32 = 6;
+
+// Document 01's tables: the bytes of a record, and the most records.
+pub const OMAP: usize = 8;
+
+const MOST_OMAP: usize = 1048576;
+
+pub const SECTION: usize = 40;
+
+const MOST_SECTIONS: usize = 65535;
+
+pub const OLD_FRAME: usize = 16;
+
+pub const NEW_FRAME: usize = 32;
+
+const MOST_FRAMES: usize = 1048576;
+
 pub enum Checked {
     Good,
     Refused(Refusal),
 }
 
+// The paper's number of a table's refusal.
+pub fn refusal_number(why: Refusal) -> u32
+    ensures { λ r. ⌜ r ≡ number why ⌝ }
+{
+    match why {
+        Refusal::Length => 1,
+        Refusal::Count => 2,
+        Refusal::Order => 3,
+    }
+}
+
+pub fn smaller(x: u32, y: u32) -> u32
+    ensures { λ r. ⌜ r ≡ min x y ⌝ }
+{
+    if x < y { x } else { y }
+}
+
+pub fn larger(x: u32, y: u32) -> u32
+    ensures { λ r. ⌜ r ≡ max x y ⌝ }
+{
+    if x < y { y } else { x }
+}
+
 fn wide(x: u8) -> u64
-    ensures { λ r. ⌜ r ≡ x ⌝ }
+    ensures { λ r. ⌜ (r ≡ x) × (r < 256) ⌝ }
 {
     x as u64
 }
 
-// The number of `width` bytes at `at`, at most eight: the decoding that every width rests on.
-pub fn le_at(s: &[u8], at: usize, width: usize) -> u64
-    requires { ⌜ (width ≤ 8) × (at + width ≤ length (now s)) ⌝ }
-    ensures { λ r. ⌜ r ≡ leAt width (now (s .entry)) at ⌝ }
-{
-    let mut acc: u64 = 0;
-    let mut k = width;
-    while 0 < k {
-        k -= 1;
-        acc = acc * 256 + wide(s[at + k]);
-    }
-    acc
-}
-
-// The two bytes at `at`.
+// The two bytes at `at`. A flat sum, which becomes one load wherever it is inlined.
 pub fn u16_at(s: &[u8], at: usize) -> u16
     requires { ⌜ at + 2 ≤ length (now s) ⌝ }
     ensures { λ r. ⌜ r ≡ leAt 2 (now (s .entry)) at ⌝ }
 {
-    le_at(s, at, 2) as u16
+    (wide(s[at]) + wide(s[at + 1]) * 256) as u16
 }
 
 // The four bytes at `at`.
@@ -57,12 +92,15 @@ pub fn u32_at(s: &[u8], at: usize) -> u32
     requires { ⌜ at + 4 ≤ length (now s) ⌝ }
     ensures { λ r. ⌜ r ≡ leAt 4 (now (s .entry)) at ⌝ }
 {
-    le_at(s, at, 4) as u32
+    (wide(s[at])
+        + wide(s[at + 1]) * 256
+        + wide(s[at + 2]) * 65536
+        + wide(s[at + 3]) * 16777216) as u32
 }
 
 // The table's bytes where it is present, else none of them.
-pub fn held(present: bool, table: &[u8]) -> &[u8]
-    ensures { λ r. ⌜ now r ≡ held present (now (table .entry)) ⌝ }
+pub fn if_present(present: bool, table: &[u8]) -> &[u8]
+    ensures { λ r. ⌜ now r ≡ ifPresent present (now (table .entry)) ⌝ }
 {
     if present {
         return table;
@@ -73,7 +111,7 @@ pub fn held(present: bool, table: &[u8]) -> &[u8]
 // Whether the length of a table of records of `width` bytes, at most `most` of them, is right.
 pub fn shape(table: &[u8], width: usize, most: usize) -> Checked
     requires { ⌜ 0 < width ⌝ }
-    ensures { λ r. ⌜ toldChecked r ≡ shapeFault width most (now (table .entry)) ⌝ }
+    ensures { λ r. ⌜ toldChecked r ≡ shapeFault (record { width = width; most = most }) (now (table .entry)) ⌝ }
 {
     if table.len() % width != 0 {
         return Checked::Refused(Refusal::Length);
@@ -84,7 +122,15 @@ pub fn shape(table: &[u8], width: usize, most: usize) -> Checked
     Checked::Good
 }
 
-// Whether each key of a table is greater than the one before it.
+// 1 where a key is not above the one before it.
+fn not_above(before: u32, key: u32) -> u32
+    ensures { λ r. ⌜ r ≡ cond (ltb before key) 0 1 ⌝ }
+{
+    if before < key { 0 } else { 1 }
+}
+
+// Whether each key of a table is greater than the one before it. The loop has no way out in its middle,
+// so that several records are compared at a time.
 pub fn in_order(table: &[u8], width: usize) -> bool
     requires { ⌜ 4 ≤ width ⌝ }
     ensures { λ r. ⌜ r ≡ rising (keys width (now (table .entry))) ⌝ }
@@ -93,23 +139,22 @@ pub fn in_order(table: &[u8], width: usize) -> bool
     if n == 0 {
         return true;
     }
+    let mut fault: u32 = 0;
     let mut before = u32_at(table, 0);
     let mut i = 1;
     while i < n {
         let key = u32_at(table, width * i);
-        if key <= before {
-            return false;
-        }
+        fault = fault | not_above(before, key);
         before = key;
         i += 1;
     }
-    true
+    fault == 0
 }
 
 // Whether a table's length and its order are right.
 pub fn check(table: &[u8], width: usize, most: usize) -> Checked
     requires { ⌜ 4 ≤ width ⌝ }
-    ensures { λ r. ⌜ toldChecked r ≡ tableFault width most (now (table .entry)) ⌝ }
+    ensures { λ r. ⌜ toldChecked r ≡ tableFault (record { width = width; most = most }) (now (table .entry)) ⌝ }
 {
     let shaped = shape(table, width, most);
     if let Checked::Refused(why) = shaped {
@@ -122,20 +167,68 @@ pub fn check(table: &[u8], width: usize, most: usize) -> Checked
     }
 }
 
-// How many records of a table in order have a key of at most `address`: by halving.
-pub fn up_to(table: &[u8], width: usize, address: u32) -> usize
+// Refusals 1 and 2 of each kind of table, and for the kinds that a question needs in order, 3.
+pub fn omap_shape(table: &[u8]) -> Checked
+    ensures { λ r. ⌜ toldChecked r ≡ omapShape (now (table .entry)) ⌝ }
+{
+    shape(table, OMAP, MOST_OMAP)
+}
+
+pub fn omap_check(table: &[u8]) -> Checked
+    ensures { λ r. ⌜ toldChecked r ≡ omapFault (now (table .entry)) ⌝ }
+{
+    check(table, OMAP, MOST_OMAP)
+}
+
+pub fn section_shape(table: &[u8]) -> Checked
+    ensures { λ r. ⌜ toldChecked r ≡ sectionShape (now (table .entry)) ⌝ }
+{
+    shape(table, SECTION, MOST_SECTIONS)
+}
+
+pub fn old_frame_shape(table: &[u8]) -> Checked
+    ensures { λ r. ⌜ toldChecked r ≡ oldFrameShape (now (table .entry)) ⌝ }
+{
+    shape(table, OLD_FRAME, MOST_FRAMES)
+}
+
+pub fn old_frame_check(table: &[u8]) -> Checked
+    ensures { λ r. ⌜ toldChecked r ≡ oldFrameFault (now (table .entry)) ⌝ }
+{
+    check(table, OLD_FRAME, MOST_FRAMES)
+}
+
+pub fn new_frame_shape(table: &[u8]) -> Checked
+    ensures { λ r. ⌜ toldChecked r ≡ newFrameShape (now (table .entry)) ⌝ }
+{
+    shape(table, NEW_FRAME, MOST_FRAMES)
+}
+
+pub fn new_frame_check(table: &[u8]) -> Checked
+    ensures { λ r. ⌜ toldChecked r ≡ newFrameFault (now (table .entry)) ⌝ }
+{
+    check(table, NEW_FRAME, MOST_FRAMES)
+}
+
+// One of two places: a chosen value, where a branch would be guessed wrong half of the time.
+fn chosen(first: bool, x: usize, y: usize) -> usize
+    ensures { λ r. ⌜ r ≡ cond first x y ⌝ }
+{
+    if first { x } else { y }
+}
+
+// The place of the first record of a table in order whose key is above `address`: by halving.
+pub fn first_above(table: &[u8], width: usize, address: u32) -> usize
     requires { ⌜ (4 ≤ width) × (rising (keys width (now table)) ≡ true) ⌝ }
-    ensures { λ r. ⌜ UpTo width (now (table .entry)) address r ⌝ }
+    ensures { λ r. ⌜ FirstAbove width (now (table .entry)) address r ⌝ }
 {
     let mut lo = 0;
     let mut hi = table.len() / width;
     while lo < hi {
         let mid = lo + (hi - lo) / 2;
-        if u32_at(table, width * mid) <= address {
-            lo = mid + 1;
-        } else {
-            hi = mid;
-        }
+        let past = u32_at(table, width * mid) <= address;
+        lo = chosen(past, mid + 1, lo);
+        hi = chosen(past, hi, mid);
     }
     lo
 }

@@ -6,13 +6,14 @@ use Prim.Native.Nat.{ℕ, _/_}
 use mathlib.Core.Bool.{true}
 use mathlib.Core.List.{List, [], _∷_, map}
 use lib.ListN.{length}
+use Rattle.lent.specs.Words.{orElse, put}
 use Rattle.lent.specs.Le.{leAt}
 use Rattle.lent.specs.Paper.{Told, value, nothing, refused, andThen}
 use Rattle.lent.specs.Table.{listed, shapeFault}
-use Rattle.lent.specs.Order.{risingAfter, rising, tableFault}
-use Rattle.omap.specs.Records.{records, orElse, lastAt, moved, single}
+use Rattle.lent.specs.Order.{risingAfter, rising, tableFault, lastAt}
+use Rattle.omap.specs.Records.{records, holderOf, moved, single}
 use Rattle.omap.specs.Lookup.{lookupSpec}
-use Rattle.omap.specs.Window.{nextOf, pieceOf, put, pieces, windowPieces}
+use Rattle.omap.specs.Window.{nextOf, pieceOf, pieces, windowPieces}
 use Rattle.omap.specs.Output.{shown, fits, allFit, flat, Window, counted, refusedAs, refusedFor, roomFor, windowSpec, windowOut}
 use Rattle.omap.specs.Expand.{total}
 

@@ -10,13 +10,14 @@ use mathlib.Core.List.{List, [], _∷_}
 use mathlib.Core.Option.{none}
 use lib.ListN.{length}
 use borrow.Author.Tests.{lt-ltb, le-leb, ne-eqb}
+use Rattle.lent.specs.Words.{put}
 use Rattle.lent.specs.Paper.{Told, value, nothing, refused, andThen}
-use Rattle.lent.specs.Table.{held, omapShape}
+use Rattle.lent.specs.Table.{ifPresent, omapShape}
 use Rattle.lent.specs.Order.{risingAfter}
 use Rattle.lent.proofs.Logic.{lt-or-le}
 use Rattle.lent.proofs.Place.{listed-step, listed-end}
 use Rattle.omap.specs.Records.{Entry, entryAt, rest, sources}
-use Rattle.omap.specs.Window.{Piece, nextOf, pieceOf, put, pieces}
+use Rattle.omap.specs.Window.{Piece, nextOf, pieceOf, pieces}
 use Rattle.omap.specs.Output.{shown, fits, allFit, flat}
 use Rattle.omap.specs.Turn.{pulled, partOf, turnOf, nextTurn}
 use Rattle.omap.specs.Step.{Stepped, done, onward, walk}
@@ -189,12 +190,12 @@ pub steps : ℕ → List Piece → Told (List ℕ)
 steps zero l = nothing
 steps (suc n) l = onePiece (steps n) l
 
-module _ (present : Bool) (s : List ℕ) (shaped : none ≡ omapShape (held present s)) where
-  pub run-yields : (n : ℕ) (c : Cursor) (l : List Entry) → rest (held present s) (c .place) ≡ l → Inside c l → run present s n c ≡ steps n (come c l)
+module _ (present : Bool) (s : List ℕ) (shaped : none ≡ omapShape (ifPresent present s)) where
+  pub run-yields : (n : ℕ) (c : Cursor) (l : List Entry) → rest (ifPresent present s) (c .place) ≡ l → Inside c l → run present s n c ≡ steps n (come c l)
   unfolding run steps
   run-yields zero c l at i = refl
   run-yields (suc n) c l at i =
-      rw (step-good present s (held present s) c refl shaped, at) (walk-yields (held present s) (run present s n) (steps n) (run-yields n) l c c at i)
+      rw (step-good present s (ifPresent present s) c refl shaped, at) (walk-yields (ifPresent present s) (run present s n) (steps n) (run-yields n) l c c at i)
 
 both : (f g : Bool) (x y : ℕ) (l : List ℕ)
     → cond f (andThen (cond g (value l) (refused 4)) (λ (k : List ℕ). value (x ∷ (y ∷ k)))) (refused 4) ≡ cond (f && g) (value (x ∷ (y ∷ l))) (refused 4)

@@ -10,10 +10,11 @@ use mathlib.Core.List.{List, [], _∷_, _++_}
 use mathlib.Core.Option.{Option, none, some}
 use lib.Dec.{leb}
 use borrow.Author.Tests.{le-leb, lt-leb, eq-eqb, ne-eqb}
-use Rattle.lent.specs.Order.{risingAfter, rising}
+use Rattle.lent.specs.Words.{orElse, put}
+use Rattle.lent.specs.Order.{risingAfter, rising, omapFault, lastAt}
 use Rattle.lent.proofs.Rising.{after-rising}
-use Rattle.omap.specs.Records.{Entry, records, sources, omapFault, orElse, lastAt, moved, single}
-use Rattle.omap.specs.Window.{Piece, nextOf, put, pieces}
+use Rattle.omap.specs.Records.{Entry, records, sources, holderOf, moved, single}
+use Rattle.omap.specs.Window.{Piece, nextOf, pieces}
 use Rattle.omap.specs.Expand.{upFrom, range, mapMaybe, expand, total}
 use lib.ListN.{length, length-append}
 use Rattle.lent.proofs.Logic.{lt-or-le}
@@ -70,7 +71,7 @@ module _ (f : ℕ → Option ℕ) where
       rw (h a (omega arith) (omega arith), map-same g n (suc a) (λ d l m. h d (omega arith) (omega arith)))
 
 -- no record after p is at or below an address of at most p
-pub above-none : (p d : ℕ) (l : List Entry) → risingAfter p (sources l) ≡ true → d ≤ p → lastAt d l ≡ none
+pub above-none : (p d : ℕ) (l : List Entry) → risingAfter p (sources l) ≡ true → d ≤ p → holderOf d l ≡ none
 unfolding lastAt orElse
 above-none p d [] r h = refl
 above-none p d (x ∷ l) r h =
@@ -78,7 +79,7 @@ above-none p d (x ∷ l) r h =
     rw (above-none (x .source) d l (rest-above p x l r) (omega arith), lt-leb (x .source) d (omega arith))
 
 -- none before the first source
-before-none : (d : ℕ) (l : List Entry) → rising (sources l) ≡ true → d < nextOf l → lastAt d l ≡ none
+before-none : (d : ℕ) (l : List Entry) → rising (sources l) ≡ true → d < nextOf l → holderOf d l ≡ none
 unfolding rising lastAt orElse nextOf
 before-none d [] r h = refl
 before-none d (x ∷ l) r h = rw (above-none (x .source) d l r (omega arith), lt-leb (x .source) d h)
@@ -89,12 +90,12 @@ or-some none y z = refl
 or-some (some v) y z = refl
 
 -- from the next source on, the first record plays no part
-after-next : (d : ℕ) (x y : Entry) (l : List Entry) → y .source ≤ d → lastAt d (x ∷ (y ∷ l)) ≡ lastAt d (y ∷ l)
+after-next : (d : ℕ) (x y : Entry) (l : List Entry) → y .source ≤ d → holderOf d (x ∷ (y ∷ l)) ≡ holderOf d (y ∷ l)
 unfolding lastAt
-after-next d x y l h = rw (le-leb (y .source) d h) (or-some (lastAt d l) y (cond (leb (x .source) d) (some x) none))
+after-next d x y l h = rw (le-leb (y .source) d h) (or-some (holderOf d l) y (cond (leb (x .source) d) (some x) none))
 
 module _ (x : Entry) (l : List Entry) (r : risingAfter (x .source) (sources l) ≡ true) where
-  next-above : (d : ℕ) → d < nextOf l → lastAt d l ≡ none
+  next-above : (d : ℕ) → d < nextOf l → holderOf d l ≡ none
   next-above d h = before-none d l (after-rising (x .source) (sources l) r) h
 
   single-here : (d : ℕ) → x .source ≤ d → d < nextOf l → single (x ∷ l) d ≡ moved d (some x)

@@ -11,11 +11,12 @@ use mathlib.Core.Option.{none, some}
 use lib.ListN.{length, drop, set, length-set}
 use lib.Seq.{sets, sets-eq}
 use borrow.Author.Tests.{leb-true}
+use Rattle.lent.specs.Words.{writtenOver}
 use Rattle.lent.specs.Order.{rising, keys}
 use Rattle.lent.proofs.Logic.{and-left, and-right}
 use Rattle.omap.specs.Records.{records, rest}
 use Rattle.omap.specs.Window.{Piece, pieces}
-use Rattle.omap.specs.Output.{shown, fits, allFit, flat, laid}
+use Rattle.omap.specs.Output.{shown, fits, allFit, flat}
 use Rattle.omap.specs.Part.{partAt}
 use Rattle.omap.proofs.Last.{src}
 use Rattle.omap.proofs.Pieces.{none-left, past-none, step-none, step-some}
@@ -25,9 +26,9 @@ pub record Filling (s : List ℕ) (a b : ℕ) (out₀ out : List ℕ) (i k : ℕ
   pub kept : length out ≡ length out₀
   pub fit : allFit (pieces a b (rest s i)) ≡ true
   pub room : k + length (flat (pieces a b (rest s i))) ≤ length out
-  pub left : sets out k (flat (pieces a b (rest s i))) ≡ laid (flat (pieces a b (records s))) out₀
+  pub left : sets out k (flat (pieces a b (rest s i))) ≡ writtenOver (flat (pieces a b (records s))) out₀
 
-pub start : (vs out : List ℕ) → length vs ≤ length out → sets out 0 vs ≡ laid vs out
+pub start : (vs out : List ℕ) → length vs ≤ length out → sets out 0 vs ≡ writtenOver vs out
 start vs out h = sets-eq vs out 0 (omega arith) ∙ ap (λ (k : ℕ). vs ++ drop k out) (zero-add (length vs))
 
 pub filling-first : (s : List ℕ) (a b : ℕ) (out : List ℕ) (i : ℕ) → i ≤ length s / 8 → pieces a b (records s) ≡ pieces a b (rest s i)
@@ -41,15 +42,15 @@ filling-first s a b out i w e f h = record {
 }
 
 module _ (s : List ℕ) (a b : ℕ) (out₀ out : List ℕ) (i k : ℕ) (w : Filling s a b out₀ out i k) where
-  last : pieces a b (rest s i) ≡ [] → out ≡ laid (flat (pieces a b (records s))) out₀
+  last : pieces a b (rest s i) ≡ [] → out ≡ writtenOver (flat (pieces a b (records s))) out₀
   unfolding flat
   last e = rw e at (w .left)
 
-  pub filling-last : length s / 8 ≤ i → out ≡ laid (flat (pieces a b (records s))) out₀
+  pub filling-last : length s / 8 ≤ i → out ≡ writtenOver (flat (pieces a b (records s))) out₀
   filling-last h = last (none-left s a b i h)
 
   module _ (h : i < length s / 8) where
-    pub filling-past : rising (keys 8 s) ≡ true → b ≤ src s i → out ≡ laid (flat (pieces a b (records s))) out₀
+    pub filling-past : rising (keys 8 s) ≡ true → b ≤ src s i → out ≡ writtenOver (flat (pieces a b (records s))) out₀
     filling-past r l = last (past-none s r a b i h l)
 
     pub filling-same : partAt s a b i ≡ none → Filling s a b out₀ out (i + 1) k

@@ -8,12 +8,12 @@ use mathlib.Core.List.{List}
 use mathlib.Core.Option.{none, some}
 use lib.ListN.{length}
 use borrow.Author.Tests.{le-leb, lt-leb, le-ltb, lt-ltb, eq-eqb, ne-eqb}
-use Rattle.lent.specs.Paper.{value, nothing, refused}
+use Rattle.lent.specs.Paper.{value, nothing, refused, fitted}
 use Rattle.lent.specs.Table.{omapShape}
-use Rattle.lent.specs.Order.{UpTo}
-use Rattle.omap.specs.Records.{Entry, entryAt, records, omapFault, lastAt, moved, single}
-use Rattle.omap.specs.Lookup.{recordSpec, lookupSpec, fitted}
-use Rattle.omap.proofs.Last.{last-none, last-some}
+use Rattle.lent.specs.Order.{FirstAbove, omapFault}
+use Rattle.omap.specs.Records.{Entry, entryAt, records, holderOf, moved, single}
+use Rattle.omap.specs.Lookup.{recordSpec, lookupSpec}
+use Rattle.lent.proofs.Last as last
 
 module _ (s : List ℕ) (i : ℕ) where
   pub record-refused : (n : ℕ) → some n ≡ omapShape s → refused n ≡ recordSpec s i
@@ -29,16 +29,14 @@ module _ (s : List ℕ) (i : ℕ) where
     unfolding recordSpec
     record-none h = rw (← good, le-ltb i (length s / 8) h)
 
--- the record just before place k holds the address
-pub found : (s : List ℕ) (a k : ℕ) → 0 < k → UpTo 8 s a k → lastAt a (records s) ≡ some (entryAt s (k - 1))
+-- the record just before the first one above the address holds it
+pub found : (s : List ℕ) (a k : ℕ) → 0 < k → FirstAbove 8 s a k → holderOf a (records s) ≡ some (entryAt s (k - 1))
 unfolding records
-found s a k pos u =
-    let w : k ≤ length s / 8 = u .within in
-    last-some s 0 (length s / 8) a (k - 1) (omega arith) (omega arith) (u .below (k - 1) (omega arith)) (λ j h l. u .above j (omega arith) (omega arith))
+found s a k pos u = last.found (λ (x : Entry). x .source) (entryAt s) 8 s a (λ j. refl) k pos u
 
-pub found-none : (s : List ℕ) (a : ℕ) → UpTo 8 s a 0 → lastAt a (records s) ≡ none
+pub found-none : (s : List ℕ) (a : ℕ) → FirstAbove 8 s a 0 → holderOf a (records s) ≡ none
 unfolding records
-found-none s a u = last-none s 0 (length s / 8) a (λ j h l. u .above j h (omega arith))
+found-none s a u = last.found-none (λ (x : Entry). x .source) (entryAt s) 8 s a (λ j. refl) u
 
 module _ (s : List ℕ) (a : ℕ) where
   pub look-absent : value a ≡ lookupSpec false s a
@@ -49,16 +47,16 @@ module _ (s : List ℕ) (a : ℕ) where
   unfolding lookupSpec
   look-refused n e = rw (← e)
 
-  look-good : none ≡ omapFault s → lookupSpec true s a ≡ fitted (moved a (lastAt a (records s)))
+  look-good : none ≡ omapFault s → lookupSpec true s a ≡ fitted (moved a (holderOf a (records s)))
   unfolding lookupSpec single
   look-good e = rw (← e)
 
   module _ (good : none ≡ omapFault s) where
-    pub look-none : UpTo 8 s a 0 → nothing ≡ lookupSpec true s a
+    pub look-none : FirstAbove 8 s a 0 → nothing ≡ lookupSpec true s a
     unfolding moved
     look-none u = rw (look-good good, found-none s a u)
 
-    module _ (k : ℕ) (pos : 0 < k) (u : UpTo 8 s a k) where
+    module _ (k : ℕ) (pos : 0 < k) (u : FirstAbove 8 s a k) where
       abbrev e : Entry
       e = entryAt s (k - 1)
 

@@ -8,8 +8,9 @@ use mathlib.Core.List.{List, [], _∷_}
 use mathlib.Core.Option.{none, some}
 use lib.ListN.{length, set}
 use borrow.Author.Tests.{le-leb, lt-leb}
-use Rattle.omap.specs.Records.{omapFault}
-use Rattle.omap.specs.Window.{Piece, nextOf, pieces, put, windowPieces}
+use Rattle.lent.specs.Words.{put}
+use Rattle.lent.specs.Order.{omapFault}
+use Rattle.omap.specs.Window.{Piece, nextOf, pieces, windowPieces}
 use Rattle.omap.specs.Output.{shown, fits, allFit, flat, outAfter, Window, counted, refusedAs, refusedFor, roomFor, windowSpec, windowOut}
 use Rattle.omap.specs.Part.{countAnswer}
 use Rattle.omap.specs.declared.window.Counted.the-variants as count

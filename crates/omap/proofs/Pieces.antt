@@ -11,15 +11,16 @@ use mathlib.Core.Option.{Option, none, some}
 use lib.ListN.{length}
 use lib.Dec.{ltb, leb}
 use borrow.Author.Tests.{lt-ltb, le-ltb, le-leb, lt-leb, eq-eqb, ne-eqb, leb-true}
+use Rattle.lent.specs.Words.{put}
 use Rattle.lent.specs.Le.{leAt}
 use Rattle.lent.specs.Table.{listed}
-use Rattle.lent.specs.Order.{keyAt, keys, rising, UpTo}
+use Rattle.lent.specs.Order.{keyAt, keys, rising, FirstAbove}
 use Rattle.lent.proofs.Place.{listed-step, listed-end, listed-all}
 use Rattle.lent.proofs.Rising.{in-place}
 use Rattle.lent.proofs.Field.{Bytes, below}
 use Rattle.lent.proofs.Logic.{lt-or-le}
 use Rattle.omap.specs.Records.{Entry, entryAt, records, rest}
-use Rattle.omap.specs.Window.{Piece, nextOf, pieceOf, put, pieces}
+use Rattle.omap.specs.Window.{Piece, nextOf, pieceOf, pieces}
 use Rattle.omap.specs.Output.{shown, fits, allFit}
 use Rattle.omap.specs.Part.{partAt, partOrEmpty, partAnswer, countAnswer}
 use Rattle.omap.specs.declared.window.Part.{Part}
@@ -139,7 +140,7 @@ module _ (s : List ℕ) (r : rising (keys 8 s) ≡ true) (a : ℕ) where
       past-all s a b i (length s / 8 - i) (λ j m q. omega (arith, in-place (keyAt 8 s) (length s / 8) r i j m (omega arith)))
 
   -- in order, the records before the last one at or below a have no piece from a on
-  pub first-from : (b k : ℕ) → UpTo 8 s a k → (i : ℕ) → i < k → pieces a b (records s) ≡ pieces a b (rest s i)
+  pub first-from : (b k : ℕ) → FirstAbove 8 s a k → (i : ℕ) → i < k → pieces a b (records s) ≡ pieces a b (rest s i)
   first-from b k u zero h = ap (pieces a b) (all-first s)
   first-from b k u (suc i) h =
       let w : k ≤ length s / 8 = u .within in

@@ -12,23 +12,23 @@ use lib.ListN.{length}
 use borrow.Author.Tests.{le-leb, lt-leb}
 use Rattle.lent.specs.Paper.{value, refused}
 use Rattle.lent.specs.Table.{listed}
-use Rattle.lent.specs.Order.{UpTo}
+use Rattle.lent.specs.Order.{FirstAbove, omapFault}
 use Rattle.lent.proofs.Logic.{lt-or-le}
 use Rattle.lent.proofs.Place.{length-listed}
-use Rattle.omap.specs.Records.{entryAt, records, omapFault}
-use Rattle.omap.specs.Step.{upTo, startOn, startSpec}
+use Rattle.omap.specs.Records.{entryAt, records}
+use Rattle.omap.specs.Step.{countUpTo, startOn, startSpec}
 use Rattle.omap.proofs.Last.{src}
 use Rattle.omap.proofs.Lookups.{found, found-none}
 
-none-up : (s : List ℕ) (i n a : ℕ) → ((j : ℕ) → i ≤ j → j < i + n → a < src s j) → upTo a (listed (entryAt s) i n) ≡ 0
-unfolding upTo listed
+none-up : (s : List ℕ) (i n a : ℕ) → ((j : ℕ) → i ≤ j → j < i + n → a < src s j) → countUpTo a (listed (entryAt s) i n) ≡ 0
+unfolding countUpTo listed
 none-up s i zero a g = refl
 none-up s i (suc n) a g = rw (lt-leb (src s i) a (g i (omega arith) (omega arith))) (none-up s (suc i) n a (λ j p q. g j (omega arith) (omega arith)))
 
 -- the records before place k, and no others, are at or below a
 up-to-places : (s : List ℕ) (i n a k : ℕ) → i ≤ k → k ≤ i + n → ((j : ℕ) → i ≤ j → j < k → src s j ≤ a)
-    → ((j : ℕ) → k ≤ j → j < i + n → a < src s j) → upTo a (listed (entryAt s) i n) ≡ k - i
-unfolding upTo listed
+    → ((j : ℕ) → k ≤ j → j < i + n → a < src s j) → countUpTo a (listed (entryAt s) i n) ≡ k - i
+unfolding countUpTo listed
 up-to-places s i zero a k h l f g = omega arith
 up-to-places s i (suc n) a k h l f g =
     ⊎-elim
@@ -38,7 +38,7 @@ up-to-places s i (suc n) a k h l f g =
     rw (lt-leb (src s i) a (g i m (omega arith))) (none-up s (suc i) n a (λ j p q. g j (omega arith) (omega arith)) ∙ omega arith))
     (lt-or-le i k)
 
-pub up-to-is : (s : List ℕ) (a k : ℕ) → UpTo 8 s a k → upTo a (records s) ≡ k
+pub up-to-is : (s : List ℕ) (a k : ℕ) → FirstAbove 8 s a k → countUpTo a (records s) ≡ k
 unfolding records
 up-to-is s a k u =
     up-to-places s 0 (length s / 8) a k (omega arith) (omega (arith, u .within)) (λ j p q. u .below j q) (λ j p q. u .above j p (omega arith)) ∙ sub-zero k
@@ -66,11 +66,11 @@ module _ (s : List ℕ) (a b : ℕ) where
     start-empty h = rw (start-good, le-leb b a h, length-records s)
 
     module _ (h : a < b) where
-      pub start-before : UpTo 8 s a 0 → value (record { address = a; end = b; source = 0; target = 0; place = 0 }) ≡ startSpec true s a b
+      pub start-before : FirstAbove 8 s a 0 → value (record { address = a; end = b; source = 0; target = 0; place = 0 }) ≡ startSpec true s a b
       unfolding startOn
       start-before u = rw (start-good, lt-leb b a h, up-to-is s a 0 u, found-none s a u)
 
-      pub start-record : (k : ℕ) → 0 < k → UpTo 8 s a k
+      pub start-record : (k : ℕ) → 0 < k → FirstAbove 8 s a k
           → value (record { address = a; end = b; source = entryAt s (k - 1) .source; target = entryAt s (k - 1) .target; place = k }) ≡ startSpec true s a b
       unfolding startOn
       start-record k p u = rw (start-good, lt-leb b a h, up-to-is s a k u, found s a k p u)

@@ -10,15 +10,16 @@ use mathlib.Core.List.{List, [], _∷_}
 use mathlib.Core.Option.{Option, none, some}
 use lib.ListN.{length, drop}
 use borrow.Author.Tests.{lt-ltb, le-leb, lt-leb}
+use Rattle.lent.specs.Words.{orElse, put}
 use Rattle.lent.specs.Paper.{value, refused, firstOf, unless}
 use Rattle.lent.specs.Table.{listed, omapShape, shapeFault}
-use Rattle.lent.specs.Order.{risingAfter, rising, orderFault, tableFault}
+use Rattle.lent.specs.Order.{risingAfter, rising, orderFault, tableFault, omapFault, lastAt}
 use Rattle.lent.proofs.Logic.{lt-or-le}
 use Rattle.lent.proofs.Rising.{after-rising}
-use Rattle.omap.specs.Records.{Entry, entryAt, records, rest, sources, omapFault, orElse, lastAt}
-use Rattle.omap.specs.Window.{nextOf, put, pieces, windowPieces}
+use Rattle.omap.specs.Records.{Entry, entryAt, records, rest, sources, holderOf}
+use Rattle.omap.specs.Window.{nextOf, pieces, windowPieces}
 use Rattle.omap.specs.Output.{allFit, flat}
-use Rattle.omap.specs.Step.{upTo, onto, startOn, startSpec}
+use Rattle.omap.specs.Step.{countUpTo, onto, startOn, startSpec}
 use Rattle.omap.specs.Run.{run, entries}
 use Rattle.omap.specs.declared.cursor.Cursor.{Cursor}
 use Rattle.omap.proofs.Last.{sources-keys, in-order, first-above, rest-above}
@@ -41,8 +42,8 @@ unfolding orElse
 here-or none x y = refl
 here-or (some z) x y = refl
 
-above-up : (p a : ℕ) (l : List Entry) → risingAfter p (sources l) ≡ true → a ≤ p → upTo a l ≡ 0
-unfolding upTo
+above-up : (p a : ℕ) (l : List Entry) → risingAfter p (sources l) ≡ true → a ≤ p → countUpTo a l ≡ 0
+unfolding countUpTo
 above-up p a [] r h = refl
 above-up p a (x ∷ l) r h =
     let up : p < x .source = first-above p x l r in
@@ -53,8 +54,8 @@ unfolding pieces put nextOf
 skip-first a b x y l h = rw (piece-empty a b x (y .source) (omega arith))
 
 begins : (a b : ℕ) (x : Entry) (l : List Entry) → rising (sources l) ≡ true → x .source ≤ a
-    → Begins a b (x ∷ l) (orHere (lastAt a l) x) (drop (upTo a l) l)
-unfolding rising risingAfter lastAt upTo orElse
+    → Begins a b (x ∷ l) (orHere (holderOf a l) x) (drop (countUpTo a l) l)
+unfolding rising risingAfter lastAt countUpTo orElse
 begins a b x [] r h = record { same = refl; below = h; ahead = refl }
 begins a b x (y ∷ l) r h =
     ⊎-elim
@@ -63,7 +64,7 @@ begins a b x (y ∷ l) r h =
     (record { same = refl; below = h; ahead = rw (lt-ltb a (y .source) q) r }))
     (λ (q : y .source ≤ a).
     let i = begins a b y l (after-rising (y .source) (sources l) r) q in
-    rw (le-leb (y .source) a q, here-or (lastAt a l) x y)
+    rw (le-leb (y .source) a q, here-or (holderOf a l) x y)
     (record { same = skip-first a b x y l q ∙ i .same; below = i .below; ahead = i .ahead }))
     (lt-or-le a (y .source))
 
@@ -113,7 +114,7 @@ module _ (s : List ℕ) (a b : ℕ) (good : omapFault s ≡ none) (w : b ≤ 429
       let r : rising (sources (records s)) ≡ true = ap rising (sources-keys s) ∙ in-order s good in
       let z : pieces a b (nowhere ∷ records s) ≡ pieces a b (records s) = rw (piece-zero a b nowhere (nextOf (records s)) refl) in
       rw (lt-leb b a h)
-      (start-record (nowhere ∷ records s) (drop (upTo a (records s)) (records s)) (lastAt a (records s)) (upTo a (records s)) (rest-is s (upTo a (records s)))
+      (start-record (nowhere ∷ records s) (drop (countUpTo a (records s)) (records s)) (holderOf a (records s)) (countUpTo a (records s)) (rest-is s (countUpTo a (records s)))
       (begins a b nowhere (records s) r (omega arith)) ∙ ap (steps n) z))
       (λ (h : b ≤ a).
       let c : Cursor = record { address = 0; end = 0; source = 0; target = 0; place = length (records s) } in

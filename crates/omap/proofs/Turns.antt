@@ -10,7 +10,7 @@ use lib.ListN.{length}
 use lib.Dec.{ltb, leb, eqb}
 use borrow.Author.Tests.{lt-ltb, le-ltb, le-leb, lt-leb, eq-eqb, ne-eqb}
 use mathlib.Core.Option.{none, some}
-use Rattle.lent.specs.Table.{held, omapShape}
+use Rattle.lent.specs.Table.{ifPresent, omapShape}
 use Rattle.lent.proofs.Logic.{lt-or-le}
 use Rattle.lent.proofs.Place.{listed-step, listed-end}
 use Rattle.omap.specs.Records.{Entry, entryAt, rest}
@@ -138,15 +138,15 @@ module _ (s : List ℕ) (c₀ c k : Cursor) (h : c .address < c .end) (e : nextT
   skipped = ⊎-elim by-record by-end (lt-or-le (c .place) (length s / 8))
 
 -- what `stepSpec` answers, from the table h that stands behind the mark
-module _ (present : Bool) (s h : List ℕ) (c : Cursor) (is : h ≡ held present s) where
+module _ (present : Bool) (s h : List ℕ) (c : Cursor) (is : h ≡ ifPresent present s) where
   pub step-refused : (n : ℕ) → some n ≡ omapShape h → refusedAt n c ≡ stepSpec present s c
   unfolding stepSpec
   step-refused n e =
-      let f : omapShape (held present s) ≡ some n = ap omapShape (sym is) ∙ sym e in
+      let f : omapShape (ifPresent present s) ≡ some n = ap omapShape (sym is) ∙ sym e in
       rw f
 
   pub step-good : none ≡ omapShape h → stepSpec present s c ≡ walk c (rest h (c .place)) c
   unfolding stepSpec
   step-good e =
-      let f : omapShape (held present s) ≡ none = ap omapShape (sym is) ∙ sym e in
+      let f : omapShape (ifPresent present s) ≡ none = ap omapShape (sym is) ∙ sym e in
       rw f (ap (λ (q : List ℕ). walk c (rest q (c .place)) c) (sym is))

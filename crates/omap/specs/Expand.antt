@@ -2,7 +2,8 @@
 use Prim.Native.Nat.{ℕ, zero, suc, _+_, _-_}
 use mathlib.Core.List.{List, [], _∷_, _++_}
 use mathlib.Core.Option.{Option}
-use Rattle.omap.specs.Window.{Piece, put}
+use Rattle.lent.specs.Words.{put}
+use Rattle.omap.specs.Window.{Piece}
 
 -- n numbers from a on
 unfoldable pub upFrom : ℕ → ℕ → List ℕ

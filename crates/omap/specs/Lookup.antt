@@ -4,10 +4,11 @@ use mathlib.Core.Bool.{Bool, cond}
 use mathlib.Core.List.{List}
 use mathlib.Core.Option.{Option, none, some}
 use lib.ListN.{length}
-use lib.Dec.{leb, ltb}
-use Rattle.lent.specs.Paper.{Told, value, nothing, refused, unless, number}
+use lib.Dec.{ltb}
+use Rattle.lent.specs.Order.{omapFault}
+use Rattle.lent.specs.Paper.{Told, value, nothing, refused, unless, number, fitted}
 use Rattle.lent.specs.Table.{omapShape}
-use Rattle.omap.specs.Records.{Entry, entryAt, records, omapFault, single}
+use Rattle.omap.specs.Records.{Entry, entryAt, records, single}
 use Rattle.omap.specs.declared.Recorded.{Recorded}
 use Rattle.omap.specs.declared.Recorded.the-variants as recorded
 use Rattle.omap.specs.declared.Looked.{Looked}
@@ -27,11 +28,6 @@ toldLooked (looked.At t) = value t
 toldLooked looked.Nothing = nothing
 toldLooked (looked.Refused why) = refused (number why)
 toldLooked looked.TooLarge = refused 4
-
--- an unbounded translation: 4 if it does not fit 32 bits
-abbrev pub fitted : Option ℕ → Told ℕ
-fitted none = nothing
-fitted (some t) = cond (leb t 4294967295) (value t) (refused 4)
 
 -- the single translation: 1, 2, 3, none or 4; with no table, the address itself
 unfoldable pub lookupSpec : Bool → List ℕ → ℕ → Told ℕ

@@ -1,12 +1,13 @@
 -- What a piece shows, and what the whole-window call answers and leaves in the lent output.
 use Prim.Native.Nat.{ℕ, _+_, _/_}
 use mathlib.Core.Bool.{Bool, true, cond, _&&_}
-use mathlib.Core.List.{List, [], _∷_, _++_}
+use mathlib.Core.List.{List, [], _∷_}
 use mathlib.Core.Option.{Option, none, some}
-use lib.ListN.{length, drop}
+use lib.ListN.{length}
 use lib.Dec.{leb}
+use Rattle.lent.specs.Order.{omapFault}
 use Rattle.lent.specs.Paper.{number}
-use Rattle.omap.specs.Records.{omapFault}
+use Rattle.lent.specs.Words.{writtenOver}
 use Rattle.omap.specs.Window.{Piece, windowPieces}
 use Rattle.omap.specs.declared.window.Windowed.{Windowed}
 use Rattle.omap.specs.declared.window.Windowed.the-variants as windowed
@@ -27,10 +28,6 @@ allFit (p ∷ l) = fits p && allFit l
 unfoldable pub flat : List Piece → List ℕ
 flat [] = []
 flat (p ∷ l) = p .to ∷ (shown p ∷ flat l)
-
--- entries at the front of lent memory, and the rest of it as it was
-abbrev pub laid : {A : Type 0} → List A → List A → List A
-laid entries out = entries ++ drop (length entries) out
 
 -- an answer about a window: the number of its pieces; a refusal; a refusal that tells the number of entries needed
 pub data Window : Type 0 where
@@ -59,7 +56,7 @@ windowSpec present s a b room = unlessFault (cond present (omapFault s) none) (r
 
 -- only a call that is not refused writes
 abbrev pub outAfter : {A : Type 0} → Window → List A → List A → List A
-outAfter (counted n) entries out = laid entries out
+outAfter (counted n) entries out = writtenOver entries out
 outAfter (refusedAs n) entries out = out
 outAfter (refusedFor n k) entries out = out
 

@@ -1,13 +1,13 @@
 -- The records of an OMAP table, and document 01's single translation.
 use Prim.Native.Nat.{ℕ, _+_, _-_, _*_, _/_}
 use mathlib.Core.Bool.{cond}
-use mathlib.Core.List.{List, [], _∷_, map}
+use mathlib.Core.List.{List, map}
 use mathlib.Core.Option.{Option, none, some}
 use lib.ListN.{length}
-use lib.Dec.{leb, eqb}
+use lib.Dec.{eqb}
 use Rattle.lent.specs.Le.{leAt}
 use Rattle.lent.specs.Table.{listed}
-use Rattle.lent.specs.Order.{tableFault}
+use Rattle.lent.specs.Order.{lastAt}
 
 -- OMAP record, 8 bytes: source at 0, target at 4, each 4 bytes
 pub record Entry : Type 0 where
@@ -29,18 +29,9 @@ records s = listed (entryAt s) 0 (length s / 8)
 abbrev pub sources : List Entry → List ℕ
 sources l = map (λ (x : Entry). x .source) l
 
--- the refusal that an OMAP table gives to a question that needs order: 1, then 2, then 3
-abbrev pub omapFault : List ℕ → Option ℕ
-omapFault = tableFault 8 1048576
-
-unfoldable pub orElse : {A : Type 0} → Option A → Option A → Option A
-orElse none y = y
-orElse (some x) y = some x
-
--- the last record whose source is at most a
-unfoldable pub lastAt : ℕ → List Entry → Option Entry
-lastAt a [] = none
-lastAt a (x ∷ l) = orElse (lastAt a l) (cond (leb (x .source) a) (some x) none)
+-- the record that holds an address: the last one whose source is at most it
+abbrev pub holderOf : ℕ → List Entry → Option Entry
+holderOf a l = lastAt (λ (x : Entry). x .source) a l
 
 -- where a record takes an address, as an unbounded number: nowhere if its target is 0
 unfoldable pub moved : ℕ → Option Entry → Option ℕ
@@ -49,4 +40,4 @@ moved a (some e) = cond (eqb (e .target) 0) none (some (a - e .source + e .targe
 
 -- the single translation of an address, as an unbounded number
 unfoldable pub single : List Entry → ℕ → Option ℕ
-single l a = moved a (lastAt a l)
+single l a = moved a (holderOf a l)

@@ -5,9 +5,10 @@ use mathlib.Core.List.{List, [], _∷_}
 use mathlib.Core.Option.{Option, none, some}
 use lib.ListN.{length}
 use lib.Dec.{ltb, leb}
+use Rattle.lent.specs.Order.{omapFault}
 use Rattle.lent.specs.Paper.{Told, value, refused, unless, number}
-use Rattle.lent.specs.Table.{held, omapShape}
-use Rattle.omap.specs.Records.{Entry, records, rest, omapFault, lastAt}
+use Rattle.lent.specs.Table.{ifPresent, omapShape}
+use Rattle.omap.specs.Records.{Entry, records, rest, holderOf}
 use Rattle.omap.specs.Turn.{nextTurn}
 use Rattle.omap.specs.declared.cursor.Turned.{Turned}
 use Rattle.omap.specs.declared.cursor.Turned.the-variants as turned
@@ -22,9 +23,9 @@ toldStarted (started.At c) = value c
 toldStarted (started.Refused why) = refused (number why)
 
 -- how many records have a source of at most a: the place of the next record to pull
-unfoldable pub upTo : ℕ → List Entry → ℕ
-upTo a [] = 0
-upTo a (x ∷ l) = cond (leb (x .source) a) (suc (upTo a l)) (upTo a l)
+unfoldable pub countUpTo : ℕ → List Entry → ℕ
+countUpTo a [] = 0
+countUpTo a (x ∷ l) = cond (leb (x .source) a) (suc (countUpTo a l)) (countUpTo a l)
 
 -- the cursor on a..b that holds a record, with the place of the next
 abbrev pub onto : ℕ → ℕ → ℕ → Option Entry → Cursor
@@ -36,7 +37,7 @@ unfoldable pub startOn : List Entry → ℕ → ℕ → Cursor
 startOn l a b =
     cond (leb b a)
     (record { address = 0; end = 0; source = 0; target = 0; place = length l })
-    (onto a b (upTo a l) (lastAt a l))
+    (onto a b (countUpTo a l) (holderOf a l))
 
 -- 1, 2, 3 or a cursor; with no table, the cursor that `RangeIter::identity` makes
 unfoldable pub startSpec : Bool → List ℕ → ℕ → ℕ → Told Cursor
@@ -77,4 +78,4 @@ unlessStep (some n) c t = refusedAt n c
 
 -- 1, 2, 6, 4, a piece, or done; a table marked absent has no records
 unfoldable pub stepSpec : Bool → List ℕ → Cursor → Stepped
-stepSpec present s c = unlessStep (omapShape (held present s)) c (walk c (rest (held present s) (c .place)) c)
+stepSpec present s c = unlessStep (omapShape (ifPresent present s)) c (walk c (rest (ifPresent present s) (c .place)) c)

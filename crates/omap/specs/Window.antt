@@ -4,6 +4,7 @@ use mathlib.Core.Bool.{Bool, cond, not, _&&_}
 use mathlib.Core.List.{List, [], _∷_}
 use mathlib.Core.Option.{Option, none, some}
 use lib.Dec.{ltb, eqb}
+use Rattle.lent.specs.Words.{put}
 use Rattle.omap.specs.Records.{Entry, records}
 
 -- a mapped piece: where it starts in the window, how many addresses it has, and where they go
@@ -23,11 +24,6 @@ pieceOf a b x e =
     cond (ltb (max a (x .source)) (min b e) && not (eqb (x .target) 0))
     (some (record { at = max a (x .source); size = min b e - max a (x .source); to = max a (x .source) - x .source + x .target }))
     none
-
--- an optional value before others
-unfoldable pub put : {A : Type 0} → Option A → List A → List A
-put none l = l
-put (some p) l = p ∷ l
 
 -- the pieces, in source order; neighbours are never joined
 unfoldable pub pieces : ℕ → ℕ → List Entry → List Piece

@@ -100,7 +100,7 @@ fn pull(table: &[u8], c: Cursor) -> Turned
 fn start_in(table: &[u8], a: u32, b: u32) -> Started
     ensures { λ r. ⌜ toldStarted r ≡ startSpec true (now (table .entry)) a b ⌝ }
 {
-    let checked = lent::check(table, 8, 1048576);
+    let checked = lent::omap_check(table);
     if let Checked::Refused(why) = checked {
         return Started::Refused(why);
     }
@@ -113,7 +113,7 @@ fn start_in(table: &[u8], a: u32, b: u32) -> Started
             place: table.len() / 8,
         });
     }
-    let k = lent::up_to(table, 8, a);
+    let k = lent::first_above(table, 8, a);
     if k == 0 {
         return Started::At(Cursor {
             address: a,
@@ -156,8 +156,8 @@ impl Cursor {
         ensures { λ r. ⌜ toldStep r ≡ stepSpec present (now (table .entry)) self ⌝ }
     {
         let from = self;
-        let held = lent::held(present, table);
-        let shaped = lent::shape(held, 8, 1048576);
+        let held = lent::if_present(present, table);
+        let shaped = lent::omap_shape(held);
         if let Checked::Refused(why) = shaped {
             return Step::Refused(why, from);
         }

@@ -31,7 +31,7 @@ pub enum Looked {
 pub fn record_at(table: &[u8], place: usize) -> Recorded
     ensures { λ r. ⌜ toldRecorded r ≡ recordSpec (now (table .entry)) place ⌝ }
 {
-    let shaped = lent::shape(table, 8, 1048576);
+    let shaped = lent::omap_shape(table);
     if let Checked::Refused(why) = shaped {
         return Recorded::Refused(why);
     }
@@ -60,11 +60,11 @@ pub fn lookup(present: bool, table: &[u8], address: u32) -> Looked
 fn look(table: &[u8], address: u32) -> Looked
     ensures { λ r. ⌜ toldLooked r ≡ lookupSpec true (now (table .entry)) address ⌝ }
 {
-    let checked = lent::check(table, 8, 1048576);
+    let checked = lent::omap_check(table);
     if let Checked::Refused(why) = checked {
         return Looked::Refused(why);
     }
-    let k = lent::up_to(table, 8, address);
+    let k = lent::first_above(table, 8, address);
     if k == 0 {
         return Looked::Nothing;
     }

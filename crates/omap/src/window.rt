@@ -4,11 +4,12 @@ ghost use mathlib.Core.Bool.{true, false};
 ghost use mathlib.Core.List.{List};
 ghost use Prim.Native.Nat.{ℕ, _+_, _*_, _/_, _≤_, _<_, max, min};
 ghost use lib.ListN.{length};
+ghost use Rattle.lent.specs.Words.{writtenOver};
 ghost use Rattle.lent.specs.Le.{leAt};
 ghost use Rattle.lent.specs.Order.{rising, keys};
 ghost use Rattle.omap.specs.Records.{records, rest};
 ghost use Rattle.omap.specs.Window.{nextOf, pieces};
-ghost use Rattle.omap.specs.Output.{allFit, flat, laid, toldWindowed, windowSpec, windowOut};
+ghost use Rattle.omap.specs.Output.{allFit, flat, toldWindowed, windowSpec, windowOut};
 ghost use Rattle.omap.specs.Part.{partAnswer, partAt, countAnswer};
 use lent::Checked;
 use lent::Refusal;
@@ -101,7 +102,7 @@ pub fn first_at(table: &[u8], a: u32) -> usize
     requires { ⌜ rising (keys 8 (now table)) ≡ true ⌝ }
     ensures { λ r. ⌜ (r ≤ length (now (table .entry)) / 8) × ((b : ℕ) → pieces a b (records (now (table .entry))) ≡ pieces a b (rest (now (table .entry)) r)) ⌝ }
 {
-    let k = lent::up_to(table, 8, a);
+    let k = lent::first_above(table, 8, a);
     if k == 0 {
         return 0;
     }
@@ -138,7 +139,7 @@ pub fn count(table: &[u8], a: u32, b: u32) -> Counted
 // Writes the pieces of a..b as pairs.
 fn fill(table: &[u8], a: u32, b: u32, out: &mut [u32])
     requires { ⌜ (rising (keys 8 (now table)) ≡ true) × ((allFit (pieces a b (records (now table))) ≡ true) × (length (flat (pieces a b (records (now table)))) ≤ length (now out))) ⌝ }
-    ensures { λ _. ⌜ now (out .exit) ≡ laid (flat (pieces a b (records (now (table .entry))))) (now (out .entry)) ⌝ }
+    ensures { λ _. ⌜ now (out .exit) ≡ writtenOver (flat (pieces a b (records (now (table .entry))))) (now (out .entry)) ⌝ }
 {
     let n = table.len() / 8;
     let mut i = first_at(table, a);
@@ -175,7 +176,7 @@ pub fn lookup_range(present: bool, table: &[u8], a: u32, b: u32, out: &mut [u32]
 fn range_in(table: &[u8], a: u32, b: u32, out: &mut [u32]) -> Windowed
     ensures { λ r. ⌜ (toldWindowed r ≡ windowSpec true (now (table .entry)) a b (length (now (out .entry)) / 2)) × (now (out .exit) ≡ windowOut true (now (table .entry)) a b (now (out .entry))) ⌝ }
 {
-    let checked = lent::check(table, 8, 1048576);
+    let checked = lent::omap_check(table);
     if let Checked::Refused(why) = checked {
         return Windowed::Refused(why);
     }

@@ -124,7 +124,7 @@ fn no_header(given: Given) -> Headed
 pub fn given_at(table: &[u8], place: usize) -> Given
     ensures { λ r. ⌜ toldGiven r (headerAt (now (table .entry)) place) ≡ headerSpec (now (table .entry)) place ⌝ }
 {
-    let shaped = lent::shape(table, 40, 65535);
+    let shaped = lent::section_shape(table);
     if let Checked::Refused(why) = shaped {
         return Given::Refused(why);
     }

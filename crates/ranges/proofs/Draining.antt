@@ -13,11 +13,13 @@ use mathlib.Core.WellFounded.{WellFounded, InvImage·wf}
 use lib.WfN.{Nat·lt-wfRel}
 use lib.ListN.{length, drop, set, length-set}
 use lib.Seq.{sets}
+use Rattle.lent.specs.Words.{writtenOver}
+use Rattle.lent.specs.Order.{omapFault}
 use Rattle.lent.specs.Paper.{Told, value, nothing, refused, unless, andThen}
-use Rattle.lent.specs.Table.{held, omapShape}
-use Rattle.omap.specs.Records.{records, rest, omapFault}
+use Rattle.lent.specs.Table.{ifPresent, omapShape}
+use Rattle.omap.specs.Records.{records, rest}
 use Rattle.omap.specs.Window.{Piece, windowPieces}
-use Rattle.omap.specs.Output.{allFit, flat, laid, outAfter, Window, counted, refusedAs, refusedFor, windowSpec, windowOut}
+use Rattle.omap.specs.Output.{allFit, flat, outAfter, Window, counted, refusedAs, refusedFor, windowSpec, windowOut}
 use Rattle.omap.specs.Step.{Stepped, piece, done, refusedAt, startOn, startSpec, walk, unlessStep, stepSpec}
 use Rattle.omap.specs.Run.{yielded, run}
 use Rattle.omap.specs.declared.cursor.Cursor.{Cursor}
@@ -44,7 +46,7 @@ used-up (some n) t e = refl
 nowhere-stops : (present : Bool) (s : List ℕ) → asTurn (stepSpec present s nowhere) .more ≡ false
 unfolding stepSpec
 nowhere-stops present s =
-    used-up (omapShape (held present s)) (walk nowhere (rest (held present s) 0) nowhere) (walk-done (rest (held present s) 0) nowhere nowhere (omega arith))
+    used-up (omapShape (ifPresent present s)) (walk nowhere (rest (ifPresent present s) 0) nowhere) (walk-done (rest (ifPresent present s) 0) nowhere nowhere (omega arith))
 
 -- what is written is nothing, or all
 all-or-none : (w : Window) (l : List Piece) → 0 < length (written w l) → written w l ≡ l
@@ -163,7 +165,7 @@ pub record Draining (present : Bool) (s : List ℕ) (a b : ℕ) (out₀ : List �
   pub gives : Gives present s cursor left
   pub goal : sets out k left ≡ windowOut present s a b out₀
 
-flat-written : (w : Window) (l : List Piece) (out : List ℕ) → laid (flat (written w l)) out ≡ outAfter w (flat l) out
+flat-written : (w : Window) (l : List Piece) (out : List ℕ) → writtenOver (flat (written w l)) out ≡ outAfter w (flat l) out
 unfolding flat
 flat-written (counted n) l out = refl
 flat-written (refusedAs n) l out = refl

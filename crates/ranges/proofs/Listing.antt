@@ -11,9 +11,10 @@ use mathlib.Core.WellFounded.{WellFounded, InvImage·wf}
 use lib.WfN.{Nat·lt-wfRel}
 use lib.ListN.{length, drop, set, length-set, length-map}
 use lib.Seq.{sets, sets-eq}
+use Rattle.lent.specs.Words.{writtenOver}
 use Rattle.omap.specs.Window as window
 use Rattle.omap.specs.Window.{windowPieces}
-use Rattle.omap.specs.Output.{allFit, Window, counted, refusedAs, refusedFor, laid, outAfter, windowSpec}
+use Rattle.omap.specs.Output.{allFit, Window, counted, refusedAs, refusedFor, outAfter, windowSpec}
 use Rattle.ranges.specs.declared.Piece.{Piece}
 use Rattle.ranges.specs.declared.Task.{Task}
 use Rattle.ranges.specs.declared.Found.{Found}
@@ -32,12 +33,12 @@ pub record Listing (present : Bool) (s : List ℕ) (a b : ℕ) (out₀ : List Pi
   pub number : k + length (left present s a b i) ≡ n
   pub goal : sets out k (map asPiece (left present s a b i)) ≡ listOut present s a b out₀
 
-laid-written : (w : Window) (l : List window.Piece) (out : List Piece) → laid (map asPiece (written w l)) out ≡ outAfter w (map asPiece l) out
+laid-written : (w : Window) (l : List window.Piece) (out : List Piece) → writtenOver (map asPiece (written w l)) out ≡ outAfter w (map asPiece l) out
 laid-written (counted n) l out = refl
 laid-written (refusedAs n) l out = refl
 laid-written (refusedFor n k) l out = refl
 
-front : (vs out : List Piece) → length vs ≤ length out → sets out 0 vs ≡ laid vs out
+front : (vs out : List Piece) → length vs ≤ length out → sets out 0 vs ≡ writtenOver vs out
 front vs out h = sets-eq vs out 0 (omega arith) ∙ ap (λ (k : ℕ). vs ++ drop k out) (zero-add (length vs))
 
 module _ (present : Bool) (s : List ℕ) (a b : ℕ) (out₀ : List Piece) where

@@ -10,7 +10,7 @@ use mathlib.Core.Option.{Option, none, some}
 use lib.ListN.{length}
 use lib.Dec.{leb}
 use borrow.Author.Tests.{le-leb, leb-true}
-use Rattle.omap.specs.Records.{omapFault}
+use Rattle.lent.specs.Order.{omapFault}
 use Rattle.omap.specs.Window as window
 use Rattle.omap.specs.Window.{windowPieces}
 use Rattle.omap.specs.Output.{shown, fits, allFit, Window, counted, refusedAs, refusedFor, roomFor, unlessFault, toldWindowed, windowSpec}

@@ -53,7 +53,7 @@ fn plan_in(table: &[u8], a: u32, b: u32, room: usize) -> Task
     ensures { λ r. ⌜ Planned true (now (table .entry)) a b room r ⌝ }
 {
     let none = table.len() / 8;
-    let checked = lent::check(table, 8, 1048576);
+    let checked = lent::omap_check(table);
     if let Checked::Refused(why) = checked {
         return Task {
             told: Windowed::Refused(why),

@@ -3,11 +3,12 @@
 use mathlib.Core.Path.{_≡_, refl}
 use Prim.Native.Nat.{ℕ}
 use mathlib.Core.List.{List, [], _∷_, _++_}
+use Rattle.lent.specs.Words.{put}
 use Rattle.lent.specs.Le.{leAt}
 use Rattle.lent.specs.Table.{listed, shapeFault}
 use Rattle.lent.specs.Order.{risingAfter, rising, tableFault}
 use Rattle.omap.specs.Records.{records}
-use Rattle.omap.specs.Window.{nextOf, pieceOf, put, pieces}
+use Rattle.omap.specs.Window.{nextOf, pieceOf, pieces}
 use Rattle.omap.specs.Output.{shown, fits, allFit, roomFor, windowSpec}
 use Rattle.report.specs.Text.{glyph, digits, placesIn, lines}
 use Rattle.report.specs.Window.{tableText, windowText}

@@ -9,11 +9,13 @@ use mathlib.Core.Option.{Option, none, some}
 use lib.ListN.{length, drop, getD, take, length-append}
 use lib.Seq.{drop-cons, take-at, length-take-le}
 use lib.Dec.{leb}
+use Rattle.lent.specs.Words.{put}
+use Rattle.lent.specs.Order.{omapFault}
 use Rattle.lent.specs.Le.{leAt}
 use borrow.Author.Tests.{lt-ltb, le-ltb, le-leb, lt-leb}
 use Rattle.lent.proofs.Place.{length-listed}
-use Rattle.omap.specs.Records.{Entry, entryAt, records, omapFault}
-use Rattle.omap.specs.Window.{Piece, nextOf, pieceOf, put, pieces, windowPieces}
+use Rattle.omap.specs.Records.{Entry, entryAt, records}
+use Rattle.omap.specs.Window.{Piece, nextOf, pieceOf, pieces, windowPieces}
 use Rattle.omap.specs.Output.{shown, allFit, flat, Window, counted, refusedAs, refusedFor, roomFor, unlessFault, windowSpec, windowOut}
 use Rattle.omap.proofs.Outputs.{length-flat}
 use Rattle.report.specs.Text.{digits, lines, numbered, refusedText}

@@ -6,7 +6,7 @@ use mathlib.Core.List.{List, [], _∷_, _++_}
 use lib.ListN.{length}
 use lib.Seq.{sets}
 use lib.Dec.{ltb, leb}
-use Rattle.omap.specs.Output.{laid}
+use Rattle.lent.specs.Words.{writtenOver}
 
 -- a digit below 16: `0` to `9`, then `A` to `F`
 unfoldable pub glyph : ℕ → ℕ
@@ -61,5 +61,5 @@ pub record Wrote (text before : List ℕ) (at r : ℕ) (after : List ℕ) : Type
 -- needs, the answer is 0 and the bytes are as they were.
 pub record Printed (room : ℕ) (text before : List ℕ) (r : ℕ) (after : List ℕ) : Type 0 where
   pub answer : r ≡ cond (leb room (length before)) (length text) 0
-  pub bytes : after ≡ cond (leb room (length before)) (laid text before) before
+  pub bytes : after ≡ cond (leb room (length before)) (writtenOver text before) before
   pub within : r ≤ length after

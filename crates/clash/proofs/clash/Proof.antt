@@ -4,8 +4,9 @@ use mathlib.Core.Path.{_≡_, sym, ap, _∙_}
 use native.Mathlib.Omega.{arith}
 use mathlib.Core.Option.{none}
 use denote.Ref.{now}
+use Rattle.lent.specs.Order.{omapFault}
 use Rattle.lent.specs.Paper.{number, toldChecked}
-use Rattle.omap.specs.Records.{records, omapFault}
+use Rattle.omap.specs.Records.{records}
 use Rattle.omap.specs.Window.{pieces}
 use Rattle.omap.proofs.Last.{in-order}
 use Rattle.omap.proofs.Outputs.{counted-is, counted-large}
@@ -19,8 +20,8 @@ use Rattle.clash.proofs.least_pair.Reads as least-pair-reads
 use Rattle.lent.proofs.check.Reads as check-reads
 use Rattle.omap.proofs.window.count.Reads as count-reads
 
-check-requires : tie.Need-check-requires
-check-requires c κs = search needs
+omap-check-requires : tie.Need-omap-check-requires
+omap-check-requires c κs = search needs
 
 enum-known-checked : tie.Need-enum-known-checked
 enum-known-checked c = search needs
@@ -29,14 +30,14 @@ returns : tie.Need-returns
 returns c =
     let a = c .before .before .before .before .before .args in
     clash-refused (now (a .table)) (a .a) (a .b) (number (c .before .checked .given .0 .0))
-    (sym (ap toldChecked (c .before .checked .given .1)) ∙ c .before .before .before .check .ensures)
+    (sym (ap toldChecked (c .before .checked .given .1)) ∙ c .before .before .before .omap-check .ensures)
 
 enum-told : tie.Need-enum-told
 enum-told c = search needs
 
 -- past the check the table gives no refusal
 good : (c : tie.After-enum-told) → none ≡ omapFault (now (c .before .before .before .before .args .table))
-good c = sym (ap toldChecked (c .enum-told .given .1)) ∙ c .before .before .check .ensures
+good c = sym (ap toldChecked (c .enum-told .given .1)) ∙ c .before .before .omap-check .ensures
 
 count-requires : tie.Need-count-requires
 count-requires c κs = in-order (now (c .before .before .before .before .args .table)) (sym (good c))
@@ -69,7 +70,7 @@ pub clash-spec : {M : Type 1} → statement M
 clash-spec =
     tie.close
     (tie.spec
-    check-requires
+    omap-check-requires
     enum-known-checked
     returns
     enum-told

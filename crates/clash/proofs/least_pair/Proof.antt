@@ -21,7 +21,7 @@ use Rattle.clash.proofs.least_pair.Tie as tie
 use Rattle.clash.proofs.least_pair.Reads as reads
 use Rattle.clash.proofs.least_pair.Lts as lts
 use Rattle.clash.proofs.meet.Reads as meet-reads
-use Rattle.lent.proofs.up_to.Reads as up-to-reads
+use Rattle.lent.proofs.first_above.Reads as first-above-reads
 use Rattle.omap.proofs.window.first_at.Reads as first-at-reads
 use Rattle.omap.proofs.window.part_at.Reads as part-at-reads
 
@@ -36,11 +36,11 @@ returns c =
     let a = c .before .before .args in
     ap value (sym (no-clash (pieces (a .a) (a .b) (records (now (a .table)))) (no-pieces (a .a) (a .b) (records (now (a .table))) (omega arith))))
 
-sub-up-to : tie.Need-sub-up-to Inv-loop μ-loop
-sub-up-to c = omega arith
+sub-first-above : tie.Need-sub-first-above Inv-loop μ-loop
+sub-first-above c = omega arith
 
-up-to-requires : tie.Need-up-to-requires Inv-loop μ-loop
-up-to-requires c κs = (omega arith, c .before .before .pre)
+first-above-requires : tie.Need-first-above-requires Inv-loop μ-loop
+first-above-requires c κs = (omega arith, c .before .before .pre)
 
 first-at-requires : tie.Need-first-at-requires Inv-loop μ-loop
 first-at-requires c κs = c .before .before .before .pre
@@ -52,7 +52,7 @@ add-j : tie.Need-add-j Inv-loop μ-loop
 add-j c = omega arith
 
 part-at-requires : tie.Need-part-at-requires Inv-loop μ-loop
-part-at-requires c κs = omega (arith, c .before .before .before .up-to .ensures .within)
+part-at-requires c κs = omega (arith, c .before .before .before .first-above .ensures .within)
 
 enum-known-part : tie.Need-enum-known-part Inv-loop μ-loop
 enum-known-part c = search needs
@@ -112,7 +112,7 @@ add-meet-2 : tie.Need-add-meet-2 Inv-loop μ-loop
 add-meet-2 c = let p = here c in omega (arith, p .1)
 
 meet-requires : tie.Need-meet-requires Inv-loop μ-loop
-meet-requires c κs = (start c .pre, (omega arith, (at c .before .before .up-to .ensures, omega (arith, sized (s c) (a c) (b c) (j c) (piece c) (found c)))))
+meet-requires c κs = (start c .pre, (omega arith, (at c .before .before .first-above .ensures, omega (arith, sized (s c) (a c) (b c) (j c) (piece c) (found c)))))
 
 enum-known-met : tie.Need-enum-known-met Inv-loop μ-loop
 enum-known-met c = search needs
@@ -129,7 +129,7 @@ cast-t21 c = let p = here (over c) in let q = inside c in omega (arith, q .0, q 
 returns-2 : tie.Need-returns-2 Inv-loop μ-loop
 returns-2 c =
     let q = over c in
-    ap value (sym (at q .loop .inv ∙ met (s q) (a q) (b q) (j q) (piece q) (found q) (start q .pre) (omega (arith, at q .before .before .up-to .ensures .within)) (target c) (source c) (meets c)))
+    ap value (sym (at q .loop .inv ∙ met (s q) (a q) (b q) (j q) (piece q) (found q) (start q .pre) (omega (arith, at q .before .before .first-above .ensures .within)) (target c) (source c) (meets c)))
 
 enum-told : tie.Need-enum-told Inv-loop μ-loop
 enum-told c = search needs
@@ -141,7 +141,7 @@ loop-again : tie.Need-loop-again Inv-loop μ-loop
 loop-again c =
     let q = c .before .before .before in
     at q .loop .inv
-    ∙ unmet (s q) (a q) (b q) (j q) (piece q) (found q) (start q .pre) (omega (arith, at q .before .before .up-to .ensures .within))
+    ∙ unmet (s q) (a q) (b q) (j q) (piece q) (found q) (start q .pre) (omega (arith, at q .before .before .first-above .ensures .within))
     (sym (ap toldMet (c .enum-told .given .1)) ∙ c .before .before .meet .ensures)
 
 enum-told-2 : tie.Need-enum-told-2 Inv-loop μ-loop
@@ -157,7 +157,7 @@ loop-again-2 c =
     let a = st .args in
     let s = now (a .table) in
     let e = was-empty (a .b) (src s (l .loop .j)) (partAt s (a .a) (a .b) (l .loop .j)) (sym (c .before .before .part-at .ensures) ∙ c .enum-told2 .given .1) in
-    l .loop .inv ∙ ap clashOf (step-none s (a .a) (a .b) (l .loop .j) (omega (arith, l .before .before .up-to .ensures .within)) e)
+    l .loop .inv ∙ ap clashOf (step-none s (a .a) (a .b) (l .loop .j) (omega (arith, l .before .before .first-above .ensures .within)) e)
 
 enum-told-3 : tie.Need-enum-told-3 Inv-loop μ-loop
 enum-told-3 c = search needs
@@ -169,7 +169,7 @@ returns-3 c =
     let a = st .args in
     let s = now (a .table) in
     let e = was-past (a .b) (src s (l .loop .j)) (partAt s (a .a) (a .b) (l .loop .j)) (sym (c .before .before .part-at .ensures) ∙ c .enum-told3 .given .1) in
-    ap value (sym (l .loop .inv ∙ no-clash (pieces (a .a) (a .b) (rest s (l .loop .j))) (past-none s (st .pre) (a .a) (a .b) (l .loop .j) (omega (arith, l .before .before .up-to .ensures .within)) e)))
+    ap value (sym (l .loop .inv ∙ no-clash (pieces (a .a) (a .b) (rest s (l .loop .j))) (past-none s (st .pre) (a .a) (a .b) (l .loop .j) (omega (arith, l .before .before .first-above .ensures .within)) e)))
 
 returns-4 : tie.Need-returns-4 Inv-loop μ-loop
 returns-4 c =
@@ -177,7 +177,7 @@ returns-4 c =
     let st = l .before .before .before .before .before in
     let a = st .args in
     let s = now (a .table) in
-    ap value (sym (l .loop .inv ∙ no-clash (pieces (a .a) (a .b) (rest s (l .loop .j))) (none-after s (a .b) (l .before .before .up-to .result) (omega arith) (l .before .before .up-to .ensures) (st .pre) (a .a) (l .loop .j) (omega arith))))
+    ap value (sym (l .loop .inv ∙ no-clash (pieces (a .a) (a .b) (rest s (l .loop .j))) (none-after s (a .b) (l .before .before .first-above .result) (omega arith) (l .before .before .first-above .ensures) (st .pre) (a .a) (l .loop .j) (omega arith))))
 
 pub least-pair-spec : {M : Type 1} → statement M
 least-pair-spec =
@@ -186,8 +186,8 @@ least-pair-spec =
     Inv-loop
     μ-loop
     returns
-    sub-up-to
-    up-to-requires
+    sub-first-above
+    first-above-requires
     first-at-requires
     loop-holds
     add-j

@@ -1,7 +1,8 @@
 -- `clash::meet` meets its contract: the records left, searched below the best target found, give the first of all.
 -- Assumes nothing.
 use mathlib.Core.Bool.{true}
-use Rattle.lent.specs.Order.{rising, keys, UpTo}
+use Rattle.lent.specs.Words.{orElse}
+use Rattle.lent.specs.Order.{rising, keys, FirstAbove}
 use Rattle.lent.proofs.Field.{Bytes}
 use Prim.Native.Nat.{ℕ, _+_, _-_, _≤_, _<_}
 use mathlib.Core.Path.{_≡_, sym, ap, _∙_}
@@ -9,7 +10,7 @@ use native.Mathlib.Omega.{arith}
 use mathlib.Core.Option.{Option, none, some}
 use mathlib.Core.List.{List}
 use denote.Ref.{now}
-use Rattle.omap.specs.Records.{rest, orElse}
+use Rattle.omap.specs.Records.{rest}
 use Rattle.omap.specs.Window.{Piece, pieces}
 use Rattle.omap.proofs.Last.{src}
 use Rattle.clash.specs.Clash.{Pair}
@@ -45,7 +46,7 @@ module _ (l : tie.At-loop Inv-loop μ-loop) where
   abbrev pos : 0 < b
   pos = l .before .before .pre .1 .0
 
-  abbrev up : UpTo 8 s (b - 1) last
+  abbrev up : FirstAbove 8 s (b - 1) last
   up = l .before .before .pre .1 .1 .0
 
   abbrev order : rising (keys 8 s) ≡ true

@@ -20,7 +20,7 @@ returns : tie.Need-returns
 unfolding tableFault
 returns c =
     let a = c .before .before .before .before .before .args in
-    let e : some (number (c .before .shaped .given .0 .0)) ≡ shapeFault (a .width) (a .most) (now (a .table))
+    let e : some (number (c .before .shaped .given .0 .0)) ≡ shapeFault (record { width = a .width; most = a .most }) (now (a .table))
     = sym (ap toldChecked (c .before .shaped .given .1)) ∙ c .before .before .before .shape .ensures in
     rw (← e)
 
@@ -35,7 +35,7 @@ unfolding tableFault
 returns-2 c =
     let a = c .before .before .before .before .before .before .args in
     let s = now (a .table) in
-    let e : none ≡ shapeFault (a .width) (a .most) s
+    let e : none ≡ shapeFault (record { width = a .width; most = a .most }) s
     = sym (ap toldChecked (c .before .before .enum-told .given .1)) ∙ c .before .before .before .before .shape .ensures in
     rw (← e, sym (c .before .in-order .ensures) ∙ c .if1 .taken)
 
@@ -44,7 +44,7 @@ unfolding tableFault
 returns-3 c =
     let a = c .before .before .before .before .before .before .args in
     let s = now (a .table) in
-    let e : none ≡ shapeFault (a .width) (a .most) s
+    let e : none ≡ shapeFault (record { width = a .width; most = a .most }) s
     = sym (ap toldChecked (c .before .before .enum-told .given .1)) ∙ c .before .before .before .before .shape .ensures in
     rw (← e, sym (c .before .in-order .ensures) ∙ c .if1 .left)
 

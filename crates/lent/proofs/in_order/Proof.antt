@@ -1,24 +1,36 @@
--- `lent::in_order` meets its contract: what is left of the order is that of the keys not yet passed.
+-- `lent::in_order` meets its contract: no fault so far, and what is left in order.
 -- Assumes nothing.
-use Prim.Native.Nat.{_-_, _/_, _≤_}
+use Prim.Native.Nat.{ℕ, _-_, _/_, _≤_}
 use mathlib.Core.Path.{_≡_, refl, sym, ap, _∙_}
+use mathlib.Core.Bool.{Bool, _&&_, and-true}
+use mathlib.Core.List.{List}
 use native.Mathlib.Omega.{arith}
 use lib.ListN.{length}
+use lib.Dec.{eqb}
 use denote.Ref.{now}
 use native.Mathlib.Nat.{mul-zero, div-le-self}
 use Rattle.lent.specs.Le.{leAt}
 use Rattle.lent.specs.Table.{listed}
 use Rattle.lent.specs.Order.{rising, risingAfter, keyAt, keys}
 use Rattle.lent.proofs.Place.{inside}
-use Rattle.lent.proofs.Rising.{after-up, after-down, rising-first, rising-none, rising-all}
+use Rattle.lent.proofs.Rising.{after-step, rising-first, rising-none, rising-all}
+use borrow.Author.Needs.{needs}
 use Rattle.lent.proofs.in_order.Statement.{statement}
 use Rattle.lent.proofs.in_order.Tie as tie
 
 abbrev Inv-loop : tie.InvT-loop
-Inv-loop table width n before₀ i₀ before i = (1 ≤ i) × ((i ≤ n) × ((n ≡ length table / width) × (rising (keys width table) ≡ risingAfter before (listed (keyAt width table) i (n - i)))))
+Inv-loop table width n fault₀ before₀ i₀ fault before i = (1 ≤ i)
+    × ((i ≤ n) × ((n ≡ length table / width) × (rising (keys width table) ≡ (eqb fault 0 && risingAfter before (listed (keyAt width table) i (n - i))))))
 
 abbrev μ-loop : tie.MeasureT-loop
-μ-loop table width n before₀ i₀ before i = n - i
+μ-loop table width n fault₀ before₀ i₀ fault before i = n - i
+
+module _ (l : tie.At-loop Inv-loop μ-loop) where
+  abbrev s : List ℕ
+  s = now (l .before .before .before .before .args .table)
+
+  abbrev w : ℕ
+  w = l .before .before .before .before .args .width
 
 div-n : tie.Need-div-n Inv-loop μ-loop
 div-n c = omega arith
@@ -36,57 +48,44 @@ u32-at-requires c κs =
 loop-holds : tie.Need-loop-holds Inv-loop μ-loop
 loop-holds c =
     let a = c .before .before .before .args in
-    let s = now (a .table) in
-    let e : leAt 4 s 0 ≡ keyAt (a .width) s 0 = ap (leAt 4 s) (sym (mul-zero (a .width))) in
-    (omega arith, (omega arith, (refl, rw (c .u32-at .ensures, e) (rising-first (keyAt (a .width) s) (length s / a .width) (omega arith)))))
+    let t = now (a .table) in
+    let e : leAt 4 t 0 ≡ keyAt (a .width) t 0 = ap (leAt 4 t) (sym (mul-zero (a .width))) in
+    (omega arith, (omega arith, (refl, rw (c .u32-at .ensures, e) (rising-first (keyAt (a .width) t) (length t / a .width) (omega arith)))))
 
 mul-u32-at : tie.Need-mul-u32-at Inv-loop μ-loop
-mul-u32-at c =
-    let a = c .before .before .before .before .before .args in
-    omega (arith, inside (a .width) (length (now (a .table))) (c .before .loop .i) (omega arith))
+mul-u32-at c = omega (arith, inside (w (c .before)) (length (s (c .before))) (c .before .loop .i) (omega arith))
 
 u32-at-requires-2 : tie.Need-u32-at-requires-2 Inv-loop μ-loop
-u32-at-requires-2 c κs =
-    let a = c .before .before .before .before .before .args in
-    omega (arith, inside (a .width) (length (now (a .table))) (c .before .loop .i) (omega arith))
+u32-at-requires-2 c κs = omega (arith, inside (w (c .before)) (length (s (c .before))) (c .before .loop .i) (omega arith))
 
-returns-2 : tie.Need-returns-2 Inv-loop μ-loop
-returns-2 c =
-    let l = c .before .before .before in
-    let a = l .before .before .before .before .args in
-    let s = now (a .table) in
-    sym (l .loop .inv .1 .1 .1 ∙ after-down (keyAt (a .width) s) (l .loop .i) (length s / a .width) (l .loop .before) (omega arith) (omega arith))
+not-above-requires : tie.Need-not-above-requires Inv-loop μ-loop
+not-above-requires c κs = search needs
 
 add-i : tie.Need-add-i Inv-loop μ-loop
-add-i c =
-    let a = c .before .before .before .before .before .before .before .args in
-    omega (arith, div-le-self (length (now (a .table))) (a .width))
+add-i c = let l = c .before .before .before in omega (arith, div-le-self (length (s l)) (w l))
 
 loop-less : tie.Need-loop-less Inv-loop μ-loop
 loop-less c = omega arith
 
 loop-again : tie.Need-loop-again Inv-loop μ-loop
 loop-again c =
-    let l = c .before .before .before in
-    let a = l .before .before .before .before .args in
-    let s = now (a .table) in (
+    let l = c .before .before .before in (
       omega arith,
       (
         omega arith,
         (
           refl,
-          rw (c .before .u32-at2 .ensures)
-              (l .loop .inv .1 .1 .1 ∙ after-up (keyAt (a .width) s) (l .loop .i) (length s / a .width) (l .loop .before) (omega arith) (omega arith)),
+          rw (c .not-above .ensures, c .before .u32-at2 .ensures)
+              (l .loop .inv .1 .1 .1 ∙ after-step (keyAt (w l) (s l)) (l .loop .i) (length (s l) / w l) (l .loop .before) (omega arith) (l .loop .fault)),
         ),
       ),
     )
 
-returns-3 : tie.Need-returns-3 Inv-loop μ-loop
-returns-3 c =
+returns-2 : tie.Need-returns-2 Inv-loop μ-loop
+returns-2 c =
     let l = c .before in
-    let a = l .before .before .before .before .args in
-    let s = now (a .table) in
-    sym (l .loop .inv .1 .1 .1 ∙ rising-all (keyAt (a .width) s) (l .loop .before) (l .loop .i) (length s / a .width) (omega arith))
+    sym (l .loop .inv .1 .1 .1 ∙ ap (λ (t : Bool). eqb (l .loop .fault) 0 && t) (rising-all (keyAt (w l) (s l)) (l .loop .before) (l .loop .i) (length (s l) / w l) (omega arith))
+    ∙ and-true (eqb (l .loop .fault) 0))
 
 pub in-order-spec : {M : Type 1} → statement M
 in-order-spec =
@@ -100,8 +99,8 @@ in-order-spec =
     loop-holds
     mul-u32-at
     u32-at-requires-2
-    returns-2
+    not-above-requires
     add-i
     loop-less
     loop-again
-    returns-3)
+    returns-2)

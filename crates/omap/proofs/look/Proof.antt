@@ -6,16 +6,15 @@ use native.Mathlib.Omega.{arith}
 use mathlib.Core.Option.{none}
 use denote.Ref.{now}
 use Rattle.lent.specs.Paper.{number, toldChecked}
-use Rattle.lent.specs.Order.{UpTo}
-use Rattle.omap.specs.Records.{omapFault}
+use Rattle.lent.specs.Order.{FirstAbove, omapFault}
 use Rattle.omap.proofs.Last.{in-order}
 use Rattle.omap.proofs.Lookups.{look-refused, look-none, look-zero, look-at, look-large}
 use borrow.Author.Needs.{needs}
 use Rattle.omap.proofs.look.Statement.{statement}
 use Rattle.omap.proofs.look.Tie as tie
 
-check-requires : tie.Need-check-requires
-check-requires c κs = search needs
+omap-check-requires : tie.Need-omap-check-requires
+omap-check-requires c κs = search needs
 
 enum-known-checked : tie.Need-enum-known-checked
 enum-known-checked c = search needs
@@ -23,23 +22,23 @@ enum-known-checked c = search needs
 returns : tie.Need-returns
 returns c =
     let a = c .before .before .before .before .before .args in
-    look-refused (now (a .table)) (a .address) (number (c .before .checked .given .0 .0)) (sym (ap toldChecked (c .before .checked .given .1)) ∙ c .before .before .before .check .ensures)
+    look-refused (now (a .table)) (a .address) (number (c .before .checked .given .0 .0)) (sym (ap toldChecked (c .before .checked .given .1)) ∙ c .before .before .before .omap-check .ensures)
 
 enum-told : tie.Need-enum-told
 enum-told c = search needs
 
 -- past the check the table gives no refusal
 good : (c : tie.After-enum-told) → none ≡ omapFault (now (c .before .before .before .before .args .table))
-good c = sym (ap toldChecked (c .enum-told .given .1)) ∙ c .before .before .check .ensures
+good c = sym (ap toldChecked (c .enum-told .given .1)) ∙ c .before .before .omap-check .ensures
 
-up-to-requires : tie.Need-up-to-requires
-up-to-requires c κs = (omega arith, in-order (now (c .before .before .before .before .args .table)) (sym (good c)))
+first-above-requires : tie.Need-first-above-requires
+first-above-requires c κs = (omega arith, in-order (now (c .before .before .before .before .args .table)) (sym (good c)))
 
 returns-2 : tie.Need-returns-2
 returns-2 c =
     let g = c .before .before in
     let a = g .before .before .before .before .args in
-    look-none (now (a .table)) (a .address) (good g) (subst (UpTo 8 (now (a .table)) (a .address)) (c .if1 .taken) (c .before .up-to .ensures))
+    look-none (now (a .table)) (a .address) (good g) (subst (FirstAbove 8 (now (a .table)) (a .address)) (c .if1 .taken) (c .before .first-above .ensures))
 
 sub-at : tie.Need-sub-at
 sub-at c = search needs
@@ -64,12 +63,12 @@ returns-3 c =
     let f = c .before .before .before in
     let g = f .before .before in
     let a = g .before .before .before .before .args in
-    look-zero (now (a .table)) (a .address) (good g) (f .before .up-to .result) (omega (arith, f)) (f .before .up-to .ensures) (omega arith)
+    look-zero (now (a .table)) (a .address) (good g) (f .before .first-above .result) (omega (arith, f)) (f .before .first-above .ensures) (omega arith)
 
 sub-into : tie.Need-sub-into
 sub-into c =
     let f = c .before .before .before in
-    omega (arith, f .before .up-to .ensures .below (f .before .up-to .result - 1) (omega (arith, f)))
+    omega (arith, f .before .first-above .ensures .below (f .before .first-above .result - 1) (omega (arith, f)))
 
 sub-if3 : tie.Need-sub-if3
 sub-if3 c = search needs
@@ -83,24 +82,24 @@ returns-4 c =
     let g = f .before .before in
     let a = g .before .before .before .before .args in
     rw (c .before .before .before .u32-at .ensures, c .before .before .u32-at2 .ensures)
-    (look-at (now (a .table)) (a .address) (good g) (f .before .up-to .result) (omega (arith, f)) (f .before .up-to .ensures) (λ z. c .before .if2 .left (omega arith)) (omega arith))
+    (look-at (now (a .table)) (a .address) (good g) (f .before .first-above .result) (omega (arith, f)) (f .before .first-above .ensures) (λ z. c .before .if2 .left (omega arith)) (omega arith))
 
 returns-5 : tie.Need-returns-5
 returns-5 c =
     let f = c .before .before .before .before in
     let g = f .before .before in
     let a = g .before .before .before .before .args in
-    look-large (now (a .table)) (a .address) (good g) (f .before .up-to .result) (omega (arith, f)) (f .before .up-to .ensures) (λ z. c .before .if2 .left (omega arith)) (omega arith)
+    look-large (now (a .table)) (a .address) (good g) (f .before .first-above .result) (omega (arith, f)) (f .before .first-above .ensures) (λ z. c .before .if2 .left (omega arith)) (omega arith)
 
 pub look-spec : {M : Type 1} → statement M
 look-spec =
     tie.close
     (tie.spec
-    check-requires
+    omap-check-requires
     enum-known-checked
     returns
     enum-told
-    up-to-requires
+    first-above-requires
     returns-2
     sub-at
     mul-u32-at

@@ -11,8 +11,8 @@ use borrow.Author.Needs.{needs}
 use Rattle.omap.proofs.record_at.Statement.{statement}
 use Rattle.omap.proofs.record_at.Tie as tie
 
-shape-requires : tie.Need-shape-requires
-shape-requires c κs = search needs
+omap-shape-requires : tie.Need-omap-shape-requires
+omap-shape-requires c κs = search needs
 
 enum-known-shaped : tie.Need-enum-known-shaped
 enum-known-shaped c = search needs
@@ -20,14 +20,14 @@ enum-known-shaped c = search needs
 returns : tie.Need-returns
 returns c =
     let a = c .before .before .before .before .before .args in
-    record-refused (now (a .table)) (a .place) (number (c .before .shaped .given .0 .0)) (sym (ap toldChecked (c .before .shaped .given .1)) ∙ c .before .before .before .shape .ensures)
+    record-refused (now (a .table)) (a .place) (number (c .before .shaped .given .0 .0)) (sym (ap toldChecked (c .before .shaped .given .1)) ∙ c .before .before .before .omap-shape .ensures)
 
 enum-told : tie.Need-enum-told
 enum-told c = search needs
 
 -- past the test of its shape the table is good
 good : (c : tie.After-enum-told) → none ≡ omapShape (now (c .before .before .before .before .args .table))
-good c = sym (ap toldChecked (c .enum-told .given .1)) ∙ c .before .before .shape .ensures
+good c = sym (ap toldChecked (c .enum-told .given .1)) ∙ c .before .before .omap-shape .ensures
 
 mul-u32-at : tie.Need-mul-u32-at
 mul-u32-at c = search needs
@@ -60,7 +60,7 @@ pub record-at-spec : {M : Type 1} → statement M
 record-at-spec =
     tie.close
     (tie.spec
-    shape-requires
+    omap-shape-requires
     enum-known-shaped
     returns
     enum-told

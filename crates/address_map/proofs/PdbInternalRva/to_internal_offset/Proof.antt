@@ -5,8 +5,8 @@ use borrow.Author.Needs.{needs}
 use Rattle.address_map.proofs.PdbInternalRva.to_internal_offset.Statement.{statement}
 use Rattle.address_map.proofs.PdbInternalRva.to_internal_offset.Tie as tie
 
-held-requires : tie.Need-held-requires
-held-requires c κs = search needs
+if-present-requires : tie.Need-if-present-requires
+if-present-requires c κs = search needs
 
 get-section-offset-requires : tie.Need-get-section-offset-requires
 get-section-offset-requires c κs = search needs
@@ -15,9 +15,9 @@ internal-offset-of-requires : tie.Need-internal-offset-of-requires
 internal-offset-of-requires c κs = search needs
 
 returns : tie.Need-returns
-returns c = c .internal-offset-of .ensures ∙ c .before .get-section-offset .ensures ∙ rw (c .before .before .held .ensures)
+returns c = c .internal-offset-of .ensures ∙ c .before .get-section-offset .ensures ∙ rw (c .before .before .if-present .ensures)
 
 pub to-internal-offset-spec : {M : Type 1} → statement M
 to-internal-offset-spec =
     tie.close
-    (tie.spec held-requires get-section-offset-requires internal-offset-of-requires returns)
+    (tie.spec if-present-requires get-section-offset-requires internal-offset-of-requires returns)

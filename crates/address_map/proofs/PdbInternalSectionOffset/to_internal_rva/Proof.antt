@@ -7,8 +7,8 @@ use Rattle.address_map.proofs.PdbInternalSectionOffset.to_internal_rva.
 }
 use Rattle.address_map.proofs.PdbInternalSectionOffset.to_internal_rva.Tie as tie
 
-held-requires : tie.Need-held-requires
-held-requires c κs = search needs
+if-present-requires : tie.Need-if-present-requires
+if-present-requires c κs = search needs
 
 get-virtual-address-requires : tie.Need-get-virtual-address-requires
 get-virtual-address-requires c κs = search needs
@@ -17,9 +17,9 @@ internal-rva-of-requires : tie.Need-internal-rva-of-requires
 internal-rva-of-requires c κs = search needs
 
 returns : tie.Need-returns
-returns c = c .internal-rva-of .ensures ∙ c .before .get-virtual-address .ensures ∙ rw (c .before .before .held .ensures)
+returns c = c .internal-rva-of .ensures ∙ c .before .get-virtual-address .ensures ∙ rw (c .before .before .if-present .ensures)
 
 pub to-internal-rva-spec : {M : Type 1} → statement M
 to-internal-rva-spec =
     tie.close
-    (tie.spec held-requires get-virtual-address-requires internal-rva-of-requires returns)
+    (tie.spec if-present-requires get-virtual-address-requires internal-rva-of-requires returns)

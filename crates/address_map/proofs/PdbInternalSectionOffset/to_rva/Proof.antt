@@ -5,8 +5,8 @@ use borrow.Author.Needs.{needs}
 use Rattle.address_map.proofs.PdbInternalSectionOffset.to_rva.Statement.{statement}
 use Rattle.address_map.proofs.PdbInternalSectionOffset.to_rva.Tie as tie
 
-held-requires : tie.Need-held-requires
-held-requires c κs = search needs
+if-present-requires : tie.Need-if-present-requires
+if-present-requires c κs = search needs
 
 place-cross-requires : tie.Need-place-cross-requires
 place-cross-requires c κs = search needs
@@ -15,7 +15,7 @@ rva-of-requires : tie.Need-rva-of-requires
 rva-of-requires c κs = search needs
 
 returns : tie.Need-returns
-returns c = c .rva-of .ensures ∙ c .before .place-cross .ensures ∙ rw (c .before .before .held .ensures)
+returns c = c .rva-of .ensures ∙ c .before .place-cross .ensures ∙ rw (c .before .before .if-present .ensures)
 
 pub to-rva-spec : {M : Type 1} → statement M
-to-rva-spec = tie.close (tie.spec held-requires place-cross-requires rva-of-requires returns)
+to-rva-spec = tie.close (tie.spec if-present-requires place-cross-requires rva-of-requires returns)

@@ -7,8 +7,8 @@ use Rattle.address_map.proofs.PdbInternalSectionOffset.to_section_offse
 }
 use Rattle.address_map.proofs.PdbInternalSectionOffset.to_section_offset.Tie as tie
 
-held-requires : tie.Need-held-requires
-held-requires c κs = search needs
+if-present-requires : tie.Need-if-present-requires
+if-present-requires c κs = search needs
 
 place-cross-locate-requires : tie.Need-place-cross-locate-requires
 place-cross-locate-requires c κs = search needs
@@ -17,7 +17,7 @@ section-offset-of-requires : tie.Need-section-offset-of-requires
 section-offset-of-requires c κs = search needs
 
 returns : tie.Need-returns
-returns c = rw (c .before .before .before .if1 .taken) (c .section-offset-of .ensures ∙ c .before .place-cross-locate .ensures ∙ rw (c .before .before .held .ensures))
+returns c = rw (c .before .before .before .if1 .taken) (c .section-offset-of .ensures ∙ c .before .place-cross-locate .ensures ∙ rw (c .before .before .if-present .ensures))
 
 returns-2 : tie.Need-returns-2
 returns-2 c = rw (c .if1 .left)
@@ -26,7 +26,7 @@ pub to-section-offset-spec : {M : Type 1} → statement M
 to-section-offset-spec =
     tie.close
     (tie.spec
-    held-requires
+    if-present-requires
     place-cross-locate-requires
     section-offset-of-requires
     returns

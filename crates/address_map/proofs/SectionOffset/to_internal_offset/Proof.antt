@@ -5,8 +5,8 @@ use borrow.Author.Needs.{needs}
 use Rattle.address_map.proofs.SectionOffset.to_internal_offset.Statement.{statement}
 use Rattle.address_map.proofs.SectionOffset.to_internal_offset.Tie as tie
 
-held-requires : tie.Need-held-requires
-held-requires c κs = search needs
+if-present-requires : tie.Need-if-present-requires
+if-present-requires c κs = search needs
 
 place-cross-locate-requires : tie.Need-place-cross-locate-requires
 place-cross-locate-requires c κs = search needs
@@ -15,7 +15,7 @@ internal-offset-of-requires : tie.Need-internal-offset-of-requires
 internal-offset-of-requires c κs = search needs
 
 returns : tie.Need-returns
-returns c = rw (c .before .before .before .if1 .taken) (c .internal-offset-of .ensures ∙ c .before .place-cross-locate .ensures ∙ rw (c .before .before .held .ensures))
+returns c = rw (c .before .before .before .if1 .taken) (c .internal-offset-of .ensures ∙ c .before .place-cross-locate .ensures ∙ rw (c .before .before .if-present .ensures))
 
 returns-2 : tie.Need-returns-2
 returns-2 c = rw (c .if1 .left)
@@ -24,7 +24,7 @@ pub to-internal-offset-spec : {M : Type 1} → statement M
 to-internal-offset-spec =
     tie.close
     (tie.spec
-    held-requires
+    if-present-requires
     place-cross-locate-requires
     internal-offset-of-requires
     returns

@@ -7,11 +7,11 @@ use Rattle.address_map.proofs.paths.actual_sections.Tie as tie
 returns : tie.Need-returns
 returns c = search needs
 
-held-requires : tie.Need-held-requires
-held-requires c κs = search needs
+if-present-requires : tie.Need-if-present-requires
+if-present-requires c κs = search needs
 
 returns-2 : tie.Need-returns-2
-returns-2 c = rw (c .before .if1 .left) (c .held .ensures)
+returns-2 c = rw (c .before .if1 .left) (c .if-present .ensures)
 
 pub actual-sections-spec : {M : Type 1} → statement M
-actual-sections-spec = tie.close (tie.spec returns held-requires returns-2)
+actual-sections-spec = tie.close (tie.spec returns if-present-requires returns-2)

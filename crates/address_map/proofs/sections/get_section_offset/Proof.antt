@@ -20,8 +20,8 @@ Inv-loop sections address n i₀ i = (i ≤ n) × ((n ≤ 65535) × (sectionSpec
 abbrev μ-loop : tie.MeasureT-loop
 μ-loop sections address n i₀ i = n - i
 
-shape-requires : tie.Need-shape-requires Inv-loop μ-loop
-shape-requires c κs = omega arith
+section-shape-requires : tie.Need-section-shape-requires Inv-loop μ-loop
+section-shape-requires c κs = omega arith
 
 enum-known-shaped : tie.Need-enum-known-shaped Inv-loop μ-loop
 enum-known-shaped c = search needs
@@ -29,14 +29,14 @@ enum-known-shaped c = search needs
 returns : tie.Need-returns Inv-loop μ-loop
 returns c =
     let a = c .before .before .before .before .before .args in
-    section-refused (now (a .sections)) (a .address) (number (c .before .shaped .given .0 .0)) (sym (ap toldChecked (c .before .shaped .given .1)) ∙ c .before .before .before .shape .ensures)
+    section-refused (now (a .sections)) (a .address) (number (c .before .shaped .given .0 .0)) (sym (ap toldChecked (c .before .shaped .given .1)) ∙ c .before .before .before .section-shape .ensures)
 
 enum-told : tie.Need-enum-told Inv-loop μ-loop
 enum-told c = search needs
 
 -- past the test of its shape the table is good
 good : (c : tie.After-enum-told Inv-loop μ-loop) → none ≡ sectionShape (now (c .before .before .before .before .args .sections))
-good c = sym (ap toldChecked (c .enum-told .given .1)) ∙ c .before .before .shape .ensures
+good c = sym (ap toldChecked (c .enum-told .given .1)) ∙ c .before .before .section-shape .ensures
 
 loop-holds : tie.Need-loop-holds Inv-loop μ-loop
 loop-holds c =
@@ -94,7 +94,7 @@ get-section-offset-spec =
     (tie.spec
     Inv-loop
     μ-loop
-    shape-requires
+    section-shape-requires
     enum-known-shaped
     returns
     enum-told

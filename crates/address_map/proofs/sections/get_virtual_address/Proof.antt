@@ -12,8 +12,8 @@ use borrow.Author.Needs.{needs}
 use Rattle.address_map.proofs.sections.get_virtual_address.Statement.{statement}
 use Rattle.address_map.proofs.sections.get_virtual_address.Tie as tie
 
-shape-requires : tie.Need-shape-requires
-shape-requires c κs = search needs
+section-shape-requires : tie.Need-section-shape-requires
+section-shape-requires c κs = search needs
 
 enum-known-shaped : tie.Need-enum-known-shaped
 enum-known-shaped c = search needs
@@ -21,14 +21,14 @@ enum-known-shaped c = search needs
 returns : tie.Need-returns
 returns c =
     let a = c .before .before .before .before .before .args in
-    address-refused (now (a .sections)) (a .section) (a .offset) (number (c .before .shaped .given .0 .0)) (sym (ap toldChecked (c .before .shaped .given .1)) ∙ c .before .before .before .shape .ensures)
+    address-refused (now (a .sections)) (a .section) (a .offset) (number (c .before .shaped .given .0 .0)) (sym (ap toldChecked (c .before .shaped .given .1)) ∙ c .before .before .before .section-shape .ensures)
 
 enum-told : tie.Need-enum-told
 enum-told c = search needs
 
 -- past the test of its shape the table is good
 good : (c : tie.After-enum-told) → none ≡ sectionShape (now (c .before .before .before .before .args .sections))
-good c = sym (ap toldChecked (c .enum-told .given .1)) ∙ c .before .before .shape .ensures
+good c = sym (ap toldChecked (c .enum-told .given .1)) ∙ c .before .before .section-shape .ensures
 
 returns-2 : tie.Need-returns-2
 returns-2 c =
@@ -71,7 +71,7 @@ pub get-virtual-address-spec : {M : Type 1} → statement M
 get-virtual-address-spec =
     tie.close
     (tie.spec
-    shape-requires
+    section-shape-requires
     enum-known-shaped
     returns
     enum-told

@@ -3,11 +3,12 @@
 use mathlib.Core.Path.{ap}
 use native.Mathlib.Omega.{arith}
 use borrow.Author.Needs.{needs}
+use Rattle.lent.specs.Words.{orElse, put}
 use Rattle.lent.specs.Le.{leAt}
 use Rattle.lent.specs.Table.{listed, shapeFault}
 use Rattle.lent.specs.Order.{risingAfter, rising, tableFault}
-use Rattle.omap.specs.Records.{records, orElse}
-use Rattle.omap.specs.Window.{nextOf, pieceOf, put, pieces}
+use Rattle.omap.specs.Records.{records}
+use Rattle.omap.specs.Window.{nextOf, pieceOf, pieces}
 use Rattle.omap.specs.Output.{shown, fits, allFit}
 use Rattle.omap.proofs.Cases.{tableT}
 use Rattle.clash.specs.Clash.{pairedOr, leastTwo}

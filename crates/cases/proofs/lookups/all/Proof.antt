@@ -2,10 +2,11 @@
 -- Assumes nothing.
 use mathlib.Core.Path.{refl}
 use borrow.Author.Needs.{needs}
+use Rattle.lent.specs.Words.{orElse}
 use Rattle.lent.specs.Le.{leAt}
 use Rattle.lent.specs.Table.{listed, shapeFault}
-use Rattle.lent.specs.Order.{risingAfter, rising, tableFault}
-use Rattle.omap.specs.Records.{records, orElse, lastAt, moved, single}
+use Rattle.lent.specs.Order.{risingAfter, rising, tableFault, lastAt}
+use Rattle.omap.specs.Records.{records, holderOf, moved, single}
 use Rattle.omap.specs.Lookup.{lookupSpec}
 use Rattle.cases.proofs.lookups.all.Statement.{statement}
 use Rattle.cases.proofs.lookups.all.Tie as tie

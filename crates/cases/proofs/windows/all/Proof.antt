@@ -2,11 +2,12 @@
 -- Assumes nothing.
 use mathlib.Core.Path.{refl}
 use borrow.Author.Needs.{needs}
+use Rattle.lent.specs.Words.{put}
 use Rattle.lent.specs.Le.{leAt}
 use Rattle.lent.specs.Table.{listed, shapeFault}
 use Rattle.lent.specs.Order.{risingAfter, rising, tableFault}
 use Rattle.omap.specs.Records.{records}
-use Rattle.omap.specs.Window.{nextOf, pieceOf, put, pieces, windowPieces}
+use Rattle.omap.specs.Window.{nextOf, pieceOf, pieces, windowPieces}
 use Rattle.omap.specs.Output.{shown, fits, allFit, flat, roomFor, windowSpec, windowOut}
 use Rattle.cases.proofs.windows.all.Statement.{statement}
 use Rattle.cases.proofs.windows.all.Tie as tie

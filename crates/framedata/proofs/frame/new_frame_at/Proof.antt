@@ -15,8 +15,8 @@ use borrow.Author.Needs.{needs}
 use Rattle.framedata.proofs.frame.new_frame_at.Statement.{statement}
 use Rattle.framedata.proofs.frame.new_frame_at.Tie as tie
 
-shape-requires : tie.Need-shape-requires
-shape-requires c κs = search needs
+new-frame-shape-requires : tie.Need-new-frame-shape-requires
+new-frame-shape-requires c κs = search needs
 
 enum-known-shaped : tie.Need-enum-known-shaped
 enum-known-shaped c = search needs
@@ -25,7 +25,7 @@ returns : tie.Need-returns
 unfolding newFrameSpec
 returns c =
     let a = c .before .before .before .before .before .args in
-    let e : some (number (c .before .shaped .given .0 .0)) ≡ newFrameShape (now (a .table)) = sym (ap toldChecked (c .before .shaped .given .1)) ∙ c .before .before .before .shape .ensures in
+    let e : some (number (c .before .shaped .given .0 .0)) ≡ newFrameShape (now (a .table)) = sym (ap toldChecked (c .before .shaped .given .1)) ∙ c .before .before .before .new-frame-shape .ensures in
     rw (← e)
 
 enum-told : tie.Need-enum-told
@@ -33,7 +33,7 @@ enum-told c = search needs
 
 -- past the shape's test, the table's length is right
 good : (c : tie.After-enum-told) → none ≡ newFrameShape (now (c .before .before .before .before .args .table))
-good c = sym (ap toldChecked (c .enum-told .given .1)) ∙ c .before .before .shape .ensures
+good c = sym (ap toldChecked (c .enum-told .given .1)) ∙ c .before .before .new-frame-shape .ensures
 
 returns-2 : tie.Need-returns-2
 unfolding newFrameSpec
@@ -56,7 +56,7 @@ pub new-frame-at-spec : {M : Type 1} → statement M
 new-frame-at-spec =
     tie.close
     (tie.spec
-    shape-requires
+    new-frame-shape-requires
     enum-known-shaped
     returns
     enum-told

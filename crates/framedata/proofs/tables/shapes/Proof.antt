@@ -9,8 +9,8 @@ use borrow.Author.Needs.{needs}
 use Rattle.framedata.proofs.tables.shapes.Statement.{statement}
 use Rattle.framedata.proofs.tables.shapes.Tie as tie
 
-shape-requires : tie.Need-shape-requires
-shape-requires c κs = search needs
+old-frame-shape-requires : tie.Need-old-frame-shape-requires
+old-frame-shape-requires c κs = search needs
 
 enum-known-shaped : tie.Need-enum-known-shaped
 enum-known-shaped c = search needs
@@ -18,22 +18,22 @@ enum-known-shaped c = search needs
 returns : tie.Need-returns
 returns c =
     let a = c .before .before .before .before .before .before .args in
-    let e : some (number (c .before .shaped .given .0 .0)) ≡ oldFrameShape (now (a .old)) = sym (ap toldChecked (c .before .shaped .given .1)) ∙ c .before .before .before .shape .ensures in
+    let e : some (number (c .before .shaped .given .0 .0)) ≡ oldFrameShape (now (a .old)) = sym (ap toldChecked (c .before .shaped .given .1)) ∙ c .before .before .before .old-frame-shape .ensures in
     rw (← e)
 
 enum-told : tie.Need-enum-told
 enum-told c = search needs
 
-shape-requires-2 : tie.Need-shape-requires-2
-shape-requires-2 c κs = search needs
+new-frame-shape-requires : tie.Need-new-frame-shape-requires
+new-frame-shape-requires c κs = search needs
 
 returns-2 : tie.Need-returns-2
 returns-2 c =
     let a = c .before .before .before .before .before .before .args in
-    let e : none ≡ oldFrameShape (now (a .old)) = sym (ap toldChecked (c .before .enum-told .given .1)) ∙ c .before .before .before .shape .ensures in
-    rw (← e) (c .shape2 .ensures)
+    let e : none ≡ oldFrameShape (now (a .old)) = sym (ap toldChecked (c .before .enum-told .given .1)) ∙ c .before .before .before .old-frame-shape .ensures in
+    rw (← e) (c .new-frame-shape .ensures)
 
 pub shapes-spec : {M : Type 1} → statement M
 shapes-spec =
     tie.close
-    (tie.spec shape-requires enum-known-shaped returns enum-told shape-requires-2 returns-2)
+    (tie.spec old-frame-shape-requires enum-known-shaped returns enum-told new-frame-shape-requires returns-2)

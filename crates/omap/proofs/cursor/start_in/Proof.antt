@@ -5,16 +5,15 @@ use native.Mathlib.Omega.{arith}
 use mathlib.Core.Option.{none}
 use denote.Ref.{now}
 use Rattle.lent.specs.Paper.{number, toldChecked}
-use Rattle.lent.specs.Order.{UpTo}
-use Rattle.omap.specs.Records.{omapFault}
+use Rattle.lent.specs.Order.{FirstAbove, omapFault}
 use Rattle.omap.proofs.Last.{in-order}
 use Rattle.omap.proofs.Starts.{start-refused, start-empty, start-before, start-record}
 use borrow.Author.Needs.{needs}
 use Rattle.omap.proofs.cursor.start_in.Statement.{statement}
 use Rattle.omap.proofs.cursor.start_in.Tie as tie
 
-check-requires : tie.Need-check-requires
-check-requires c κs = search needs
+omap-check-requires : tie.Need-omap-check-requires
+omap-check-requires c κs = search needs
 
 enum-known-checked : tie.Need-enum-known-checked
 enum-known-checked c = search needs
@@ -22,14 +21,14 @@ enum-known-checked c = search needs
 returns : tie.Need-returns
 returns c =
     let a = c .before .before .before .before .before .args in
-    start-refused (now (a .table)) (a .a) (a .b) (number (c .before .checked .given .0 .0)) (sym (ap toldChecked (c .before .checked .given .1)) ∙ c .before .before .before .check .ensures)
+    start-refused (now (a .table)) (a .a) (a .b) (number (c .before .checked .given .0 .0)) (sym (ap toldChecked (c .before .checked .given .1)) ∙ c .before .before .before .omap-check .ensures)
 
 enum-told : tie.Need-enum-told
 enum-told c = search needs
 
 -- past the check the table gives no refusal
 good : (c : tie.After-enum-told) → none ≡ omapFault (now (c .before .before .before .before .args .table))
-good c = sym (ap toldChecked (c .enum-told .given .1)) ∙ c .before .before .check .ensures
+good c = sym (ap toldChecked (c .enum-told .given .1)) ∙ c .before .before .omap-check .ensures
 
 returns-2 : tie.Need-returns-2
 returns-2 c =
@@ -37,14 +36,14 @@ returns-2 c =
     let a = g .before .before .before .before .args in
     start-empty (now (a .table)) (a .a) (a .b) (good g) (omega arith)
 
-up-to-requires : tie.Need-up-to-requires
-up-to-requires c κs = (omega arith, in-order (now (c .before .before .before .before .before .args .table)) (sym (good (c .before))))
+first-above-requires : tie.Need-first-above-requires
+first-above-requires c κs = (omega arith, in-order (now (c .before .before .before .before .before .args .table)) (sym (good (c .before))))
 
 returns-3 : tie.Need-returns-3
 returns-3 c =
     let g = c .before .before .before in
     let a = g .before .before .before .before .args in
-    start-before (now (a .table)) (a .a) (a .b) (good g) (omega arith) (subst (UpTo 8 (now (a .table)) (a .a)) (c .if2 .taken) (c .before .up-to .ensures))
+    start-before (now (a .table)) (a .a) (a .b) (good g) (omega arith) (subst (FirstAbove 8 (now (a .table)) (a .a)) (c .if2 .taken) (c .before .first-above .ensures))
 
 sub-at : tie.Need-sub-at
 sub-at c = search needs
@@ -70,18 +69,18 @@ returns-4 c =
     let g = f .before .before .before in
     let a = g .before .before .before .before .args in
     rw (c .before .u32-at .ensures, c .u32-at2 .ensures)
-    (start-record (now (a .table)) (a .a) (a .b) (good g) (omega arith) (f .before .up-to .result) (omega (arith, f)) (f .before .up-to .ensures))
+    (start-record (now (a .table)) (a .a) (a .b) (good g) (omega arith) (f .before .first-above .result) (omega (arith, f)) (f .before .first-above .ensures))
 
 pub start-in-spec : {M : Type 1} → statement M
 start-in-spec =
     tie.close
     (tie.spec
-    check-requires
+    omap-check-requires
     enum-known-checked
     returns
     enum-told
     returns-2
-    up-to-requires
+    first-above-requires
     returns-3
     sub-at
     mul-u32-at

@@ -10,8 +10,8 @@ use borrow.Author.Needs.{needs}
 use Rattle.omap.proofs.window.first_at.Statement.{statement}
 use Rattle.omap.proofs.window.first_at.Tie as tie
 
-up-to-requires : tie.Need-up-to-requires
-up-to-requires c κs = search needs
+first-above-requires : tie.Need-first-above-requires
+first-above-requires c κs = search needs
 
 returns : tie.Need-returns
 returns c =
@@ -25,9 +25,9 @@ returns-2 : tie.Need-returns-2
 returns-2 c =
     let st = c .before .before .before in
     let a = st .args in
-    let k = c .before .up-to .result in
-    let u = c .before .up-to .ensures in
+    let k = c .before .first-above .result in
+    let u = c .before .first-above .ensures in
     (omega (arith, u .within), λ b. first-from (now (a .table)) (st .pre) (a .a) b k u (k - 1) (omega (arith, c)))
 
 pub first-at-spec : {M : Type 1} → statement M
-first-at-spec = tie.close (tie.spec up-to-requires returns sub-result returns-2)
+first-at-spec = tie.close (tie.spec first-above-requires returns sub-result returns-2)

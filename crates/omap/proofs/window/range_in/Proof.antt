@@ -7,8 +7,9 @@ use native.Mathlib.Omega.{arith}
 use mathlib.Core.Option.{none}
 use lib.ListN.{length}
 use denote.Ref.{now}
+use Rattle.lent.specs.Order.{omapFault}
 use Rattle.lent.specs.Paper.{number, toldChecked}
-use Rattle.omap.specs.Records.{records, omapFault}
+use Rattle.omap.specs.Records.{records}
 use Rattle.omap.specs.Window.{pieces}
 use Rattle.omap.specs.Output.{counted, refusedAs, refusedFor}
 use Rattle.omap.proofs.Last.{in-order}
@@ -17,8 +18,8 @@ use borrow.Author.Needs.{needs}
 use Rattle.omap.proofs.window.range_in.Statement.{statement}
 use Rattle.omap.proofs.window.range_in.Tie as tie
 
-check-requires : tie.Need-check-requires
-check-requires c κs = search needs
+omap-check-requires : tie.Need-omap-check-requires
+omap-check-requires c κs = search needs
 
 enum-known-checked : tie.Need-enum-known-checked
 enum-known-checked c = search needs
@@ -27,14 +28,14 @@ returns : tie.Need-returns
 returns c =
     let a = c .before .before .before .before .before .before .args in
     window-refused true (now (a .table)) (a .a) (a .b) (now (a .out)) refl (number (c .before .checked .given .0 .0))
-    (sym (ap toldChecked (c .before .checked .given .1)) ∙ c .before .before .before .check .ensures)
+    (sym (ap toldChecked (c .before .checked .given .1)) ∙ c .before .before .before .omap-check .ensures)
 
 enum-told : tie.Need-enum-told
 enum-told c = search needs
 
 -- past the check the table gives no refusal
 good : (c : tie.After-enum-told) → none ≡ omapFault (now (c .before .before .before .before .before .args .table))
-good c = sym (ap toldChecked (c .enum-told .given .1)) ∙ c .before .before .check .ensures
+good c = sym (ap toldChecked (c .enum-told .given .1)) ∙ c .before .before .omap-check .ensures
 
 count-requires : tie.Need-count-requires
 count-requires c κs = in-order (now (c .before .before .before .before .before .args .table)) (sym (good c))
@@ -89,7 +90,7 @@ pub range-in-spec : {M : Type 1} → statement M
 range-in-spec =
     tie.close
     (tie.spec
-    check-requires
+    omap-check-requires
     enum-known-checked
     returns
     enum-told

@@ -10,8 +10,8 @@ use borrow.Author.Needs.{needs}
 use Rattle.pe.proofs.header.given_at.Statement.{statement}
 use Rattle.pe.proofs.header.given_at.Tie as tie
 
-shape-requires : tie.Need-shape-requires
-shape-requires c κs = search needs
+section-shape-requires : tie.Need-section-shape-requires
+section-shape-requires c κs = search needs
 
 enum-known-shaped : tie.Need-enum-known-shaped
 enum-known-shaped c = search needs
@@ -20,13 +20,13 @@ returns : tie.Need-returns
 returns c =
     let a = c .before .before .before .before .before .args in
     let why = c .before .shaped .given .0 .0 in
-    header-refused (now (a .table)) (a .place) (number why) (sym (ap toldChecked (c .before .shaped .given .1)) ∙ c .before .before .before .shape .ensures)
+    header-refused (now (a .table)) (a .place) (number why) (sym (ap toldChecked (c .before .shaped .given .1)) ∙ c .before .before .before .section-shape .ensures)
 
 enum-told : tie.Need-enum-told
 enum-told c = search needs
 
 good : (c : tie.After-enum-told) → none ≡ sectionShape (now (c .before .before .before .before .args .table))
-good c = sym (ap toldChecked (c .enum-told .given .1)) ∙ c .before .before .shape .ensures
+good c = sym (ap toldChecked (c .enum-told .given .1)) ∙ c .before .before .section-shape .ensures
 
 returns-2 : tie.Need-returns-2
 returns-2 c =
@@ -40,4 +40,4 @@ returns-3 c =
 
 pub given-at-spec : {M : Type 1} → statement M
 given-at-spec =
-    tie.close (tie.spec shape-requires enum-known-shaped returns enum-told returns-2 returns-3)
+    tie.close (tie.spec section-shape-requires enum-known-shaped returns enum-told returns-2 returns-3)

@@ -9,7 +9,7 @@ use lib.ListN.{length}
 use native.Mathlib.Omega.{arith}
 use denote.Ref.{now}
 use Rattle.lent.specs.Paper.{refused, number, toldChecked}
-use Rattle.lent.specs.Table.{held}
+use Rattle.lent.specs.Table.{ifPresent}
 use Rattle.framedata.specs.Records.{oldRecord, newRecord, oldAt, newAt}
 use Rattle.framedata.specs.Frame.{toldDecoded}
 use Rattle.framedata.specs.Tables.{shapeOfBoth}
@@ -24,23 +24,23 @@ use Rattle.framedata.proofs.cursor.FrameCursor.step.Statement.{statemen
 use Rattle.framedata.proofs.cursor.FrameCursor.step.Tie as tie
 
 -- an answer over the tables as they are held is one over the tables behind their marks
-kept : (c : tie.After-shapes) → stepSpec (now (c .before .before .held .result)) (now (c .before .held2 .result)) (c .before .before .before .before .before .args .self) ≡ stepSpec (held (c .before .before .before .before .before .args .old-present) (now (c .before .before .before .before .before .args .old))) (held (c .before .before .before .before .before .args .new-present) (now (c .before .before .before .before .before .args .new))) (c .before .before .before .before .before .args .self)
-kept c = of-both (λ (s t : List ℕ). stepSpec s t (c .before .before .before .before .before .args .self)) (c .before .before .held .ensures) (c .before .held2 .ensures)
+kept : (c : tie.After-shapes) → stepSpec (now (c .before .before .if-present .result)) (now (c .before .if-present2 .result)) (c .before .before .before .before .before .args .self) ≡ stepSpec (ifPresent (c .before .before .before .before .before .args .old-present) (now (c .before .before .before .before .before .args .old))) (ifPresent (c .before .before .before .before .before .args .new-present) (now (c .before .before .before .before .before .args .new))) (c .before .before .before .before .before .args .self)
+kept c = of-both (λ (s t : List ℕ). stepSpec s t (c .before .before .before .before .before .args .self)) (c .before .before .if-present .ensures) (c .before .if-present2 .ensures)
 
 -- the cursor, the tables as they are held, and the step that is asked for
 abbrev at : tie.After-lesser → FrameCursor
 at c = c .before .before .before .before .before .before .before .before .args .self
 
 abbrev olds : tie.After-lesser → List ℕ
-olds c = now (c .before .before .before .before .before .held .result)
+olds c = now (c .before .before .before .before .before .if-present .result)
 
 abbrev news : tie.After-lesser → List ℕ
-news c = now (c .before .before .before .before .held2 .result)
+news c = now (c .before .before .before .before .if-present2 .result)
 
 abbrev asked : tie.After-lesser → Stepped
 asked c =
     let a = c .before .before .before .before .before .before .before .before .args in
-    stepSpec (held (a .old-present) (now (a .old))) (held (a .new-present) (now (a .new))) (a .self)
+    stepSpec (ifPresent (a .old-present) (now (a .old))) (ifPresent (a .new-present) (now (a .new))) (a .self)
 
 -- which record is next, as the code found it
 abbrev found : tie.After-lesser → Next → Option Pick
@@ -68,11 +68,11 @@ new-here : (c : tie.After-lesser) (q : Next) (p : Pick) → c .lesser .result �
 new-here c q p e f takes =
     new-inside (oldRecord (olds c)) (length (olds c) / 16) (at c .«old_index») (newRecord (news c)) (length (news c) / 32) (at c .«new_index») p (next-is c q e ∙ f) takes
 
-held-requires : tie.Need-held-requires
-held-requires c κs = search needs
+if-present-requires : tie.Need-if-present-requires
+if-present-requires c κs = search needs
 
-held-requires-2 : tie.Need-held-requires-2
-held-requires-2 c κs = search needs
+if-present-requires-2 : tie.Need-if-present-requires-2
+if-present-requires-2 c κs = search needs
 
 shapes-requires : tie.Need-shapes-requires
 shapes-requires c κs = search needs
@@ -83,9 +83,9 @@ enum-known-shaped c = search needs
 returns : tie.Need-returns
 unfolding stepSpec
 returns c =
-    let e : some (number (c .before .shaped .given .0 .0)) ≡ shapeOfBoth (now (c .before .before .before .before .before .held .result)) (now (c .before .before .before .before .held2 .result))
+    let e : some (number (c .before .shaped .given .0 .0)) ≡ shapeOfBoth (now (c .before .before .before .before .before .if-present .result)) (now (c .before .before .before .before .if-present2 .result))
     = sym (ap toldChecked (c .before .shaped .given .1)) ∙ c .before .before .before .shapes .ensures in
-    let d : handed (c .before .before .before .before .before .before .before .before .args .self) (c .before .before .before .before .before .before .before .before .args .self) (refused (number (c .before .shaped .given .0 .0))) ≡ stepSpec (now (c .before .before .before .before .before .held .result)) (now (c .before .before .before .before .held2 .result)) (c .before .before .before .before .before .before .before .before .args .self) = rw (← e) in
+    let d : handed (c .before .before .before .before .before .before .before .before .args .self) (c .before .before .before .before .before .before .before .before .args .self) (refused (number (c .before .shaped .given .0 .0))) ≡ stepSpec (now (c .before .before .before .before .before .if-present .result)) (now (c .before .before .before .before .if-present2 .result)) (c .before .before .before .before .before .before .before .before .args .self) = rw (← e) in
     d ∙ kept (c .before .before .before)
 
 enum-told : tie.Need-enum-told
@@ -156,8 +156,8 @@ pub step-spec : {M : Type 1} → statement M
 step-spec =
     tie.close
     (tie.spec
-    held-requires
-    held-requires-2
+    if-present-requires
+    if-present-requires-2
     shapes-requires
     enum-known-shaped
     returns

@@ -17,16 +17,16 @@ use Rattle.omap.proofs.cursor.Cursor.step.Statement.{statement}
 use Rattle.omap.proofs.cursor.Cursor.step.Tie as tie
 
 abbrev Inv-loop : tie.InvT-loop
-Inv-loop self₀ present table from held self = stepSpec present table self₀ ≡ walk self₀ (rest held (self .place)) self
+Inv-loop self₀ present table from ifPresent self = stepSpec present table self₀ ≡ walk self₀ (rest ifPresent (self .place)) self
 
 abbrev μ-loop : tie.MeasureT-loop
-μ-loop self₀ present table from held self = (length held / 8 - self .place) + min 1 (self .end - self .address)
+μ-loop self₀ present table from ifPresent self = (length ifPresent / 8 - self .place) + min 1 (self .end - self .address)
 
-held-requires : tie.Need-held-requires Inv-loop μ-loop
-held-requires c κs = search needs
+if-present-requires : tie.Need-if-present-requires Inv-loop μ-loop
+if-present-requires c κs = search needs
 
-shape-requires : tie.Need-shape-requires Inv-loop μ-loop
-shape-requires c κs = omega arith
+omap-shape-requires : tie.Need-omap-shape-requires Inv-loop μ-loop
+omap-shape-requires c κs = omega arith
 
 enum-known-shaped : tie.Need-enum-known-shaped Inv-loop μ-loop
 enum-known-shaped c = search needs
@@ -34,9 +34,9 @@ enum-known-shaped c = search needs
 returns : tie.Need-returns Inv-loop μ-loop
 returns c =
     let a = c .before .before .before .before .before .before .args in
-    let h = c .before .before .before .before .held in
+    let h = c .before .before .before .before .if-present in
     step-refused (a .present) (now (a .table)) (now (h .result)) (a .self) (h .ensures) (number (c .before .shaped .given .0 .0))
-    (sym (ap toldChecked (c .before .shaped .given .1)) ∙ c .before .before .before .shape .ensures)
+    (sym (ap toldChecked (c .before .shaped .given .1)) ∙ c .before .before .before .omap-shape .ensures)
 
 enum-told : tie.Need-enum-told Inv-loop μ-loop
 enum-told c = search needs
@@ -44,9 +44,9 @@ enum-told c = search needs
 loop-holds : tie.Need-loop-holds Inv-loop μ-loop
 loop-holds c =
     let a = c .before .before .before .before .before .args in
-    let h = c .before .before .before .held in
+    let h = c .before .before .before .if-present in
     step-good (a .present) (now (a .table)) (now (h .result)) (a .self) (h .ensures)
-    (sym (ap toldChecked (c .enum-told .given .1)) ∙ c .before .before .shape .ensures)
+    (sym (ap toldChecked (c .enum-told .given .1)) ∙ c .before .before .omap-shape .ensures)
 
 pull-requires : tie.Need-pull-requires Inv-loop μ-loop
 pull-requires c κs = search needs
@@ -60,7 +60,7 @@ returns-2 c =
     let a = l .before .before .before .before .before .before .args in
     let k = l .loop .self in
     let v = c .before .turned .given .0 in
-    sym (l .loop .inv ∙ walk-ends (rest (now (l .before .before .before .before .held .result)) (k .place)) (a .self) k (omega arith) (Piece (v .0) (v .1 .0) (v .1 .1 .0))
+    sym (l .loop .inv ∙ walk-ends (rest (now (l .before .before .before .before .if-present .result)) (k .place)) (a .self) k (omega arith) (Piece (v .0) (v .1 .0) (v .1 .1 .0))
     (sym (c .before .before .before .pull .ensures) ∙ c .before .turned .given .1) (piece (v .0) (v .1 .0) (v .1 .1 .0)) (λ on. refl))
 
 enum-known-turned-2 : tie.Need-enum-known-turned-2 Inv-loop μ-loop
@@ -72,7 +72,7 @@ module _ (c : tie.After-known-told3 Inv-loop μ-loop) where
   at = c .before .before .before .before .before .before
 
   abbrev h : List ℕ
-  h = now (at .before .before .before .before .held .result)
+  h = now (at .before .before .before .before .if-present .result)
 
   on : Onward h (at .before .before .before .before .before .before .args .self) (at .loop .self) (c .before .turned2 .given .0 .0)
   on =
@@ -93,7 +93,7 @@ returns-3 c =
     let l = c .before .before .before .before .before in
     let a = l .before .before .before .before .before .before .args in
     let k = l .loop .self in
-    sym (l .loop .inv ∙ walk-ends (rest (now (l .before .before .before .before .held .result)) (k .place)) (a .self) k (omega arith) Early
+    sym (l .loop .inv ∙ walk-ends (rest (now (l .before .before .before .before .if-present .result)) (k .place)) (a .self) k (omega arith) Early
     (sym (c .before .before .pull .ensures) ∙ c .enum-told2 .given .1) (refusedAt 6 (a .self)) (λ on. refl))
 
 enum-told-3 : tie.Need-enum-told-3 Inv-loop μ-loop
@@ -104,14 +104,14 @@ returns-4 c =
     let l = c .before .before .before .before .before in
     let a = l .before .before .before .before .before .before .args in
     let k = l .loop .self in
-    sym (l .loop .inv ∙ walk-ends (rest (now (l .before .before .before .before .held .result)) (k .place)) (a .self) k (omega arith) TooLarge
+    sym (l .loop .inv ∙ walk-ends (rest (now (l .before .before .before .before .if-present .result)) (k .place)) (a .self) k (omega arith) TooLarge
     (sym (c .before .before .pull .ensures) ∙ c .enum-told3 .given .1) (refusedAt 4 (a .self)) (λ on. refl))
 
 returns-5 : tie.Need-returns-5 Inv-loop μ-loop
 returns-5 c =
     let l = c .before .before in
     let a = l .before .before .before .before .before .before .args in
-    sym (l .loop .inv ∙ walk-done (rest (now (l .before .before .before .before .held .result)) (l .loop .self .place)) (a .self) (l .loop .self) (omega arith))
+    sym (l .loop .inv ∙ walk-done (rest (now (l .before .before .before .before .if-present .result)) (l .loop .self .place)) (a .self) (l .loop .self) (omega arith))
 
 pub step-spec : {M : Type 1} → statement M
 step-spec =
@@ -119,8 +119,8 @@ step-spec =
     (tie.spec
     Inv-loop
     μ-loop
-    held-requires
-    shape-requires
+    if-present-requires
+    omap-shape-requires
     enum-known-shaped
     returns
     enum-told
