@@ -7,31 +7,25 @@ use native.Mathlib.Omega.{arith}
 use native.Mathlib.Nat.{eq-zero-or-pos}
 use mathlib.Core.Bool.{Bool, true, false, cond, _&&_}
 use mathlib.Core.List.{List, [], _∷_}
-use mathlib.Core.Option.{none}
+use mathlib.Core.Option.{none, some}
 use lib.ListN.{length}
 use borrow.Author.Tests.{lt-ltb, le-leb, ne-eqb}
 use Rattle.lent.specs.Words.{put}
-use Rattle.lent.specs.Paper.{Told, value, nothing, refused, andThen}
+use Rattle.lent.specs.Paper.{Told, value, nothing, refused, unless, andThen}
 use Rattle.lent.specs.Table.{ifPresent, omapShape}
 use Rattle.lent.specs.Order.{risingAfter}
 use Rattle.lent.proofs.Logic.{lt-or-le}
 use Rattle.lent.proofs.Place.{listed-step, listed-end}
 use Rattle.omap.specs.Records.{Entry, entryAt, rest, sources}
 use Rattle.omap.specs.Window.{Piece, nextOf, pieceOf, pieces}
-use Rattle.omap.specs.Output.{shown, fits, allFit, flat}
-use Rattle.omap.specs.Turn.{pulled, partOf, turnOf, nextTurn}
-use Rattle.omap.specs.Step.{Stepped, done, onward, walk}
+use Rattle.omap.specs.Output.{besideStart, fits, allFit, sumFault, flat}
+use Rattle.omap.specs.Turn.{Turn, on, pulled, turnWith, endOf, turns}
+use Rattle.omap.specs.Step.{piece, refusedAt, pieceOr, firstPiece}
 use Rattle.omap.specs.Run.{yielded, run, entries}
 use Rattle.omap.specs.declared.cursor.Cursor.{Cursor}
-use Rattle.omap.specs.declared.cursor.Turned.the-variants as turned
 use Rattle.omap.proofs.Last.{first-above, rest-above}
 use Rattle.omap.proofs.Pieces.{piece-empty, piece-zero, piece-some}
-use Rattle.omap.proofs.Turns.{walk-done, step-good}
-use Rattle.omap.proofs.Turns.{turn-zero as zero-skips}
-
--- the record that a cursor is on
-abbrev pub on : Cursor → Entry
-on c = record { source = c .source; target = c .target }
+use Rattle.omap.proofs.Turns.{part-zero, part-some, walk, walk-done, step-good}
 
 -- the pieces that are still to come, where l are the records not yet pulled
 abbrev pub come : Cursor → List Entry → List Piece
@@ -86,53 +80,41 @@ module _ (c : Cursor) (x : Entry) (l : List Entry) (p : ℕ) (i : Inside c (x �
   unfolding pieces put nextOf
   come-zero z = rw (piece-zero (c .address) (c .end) (on c) (x .source) z) from-next
 
-  come-mapped : (c .target ≡ 0 → ⊥) → come c (x ∷ l) ≡ partOf x c ∷ come (pulled x p c) l
+  come-mapped : (c .target ≡ 0 → ⊥) → come c (x ∷ l) ≡ turnWith x p c .part ∷ come (pulled x p c) l
   unfolding pieces put nextOf
   come-mapped z =
       let b = i .begun h in
       let u = up in
       let m : max (c .address) (c .source) ≡ c .address = omega arith in
       let n : min (c .end) (x .source) ≡ min (x .source) (c .end) = omega arith in
-      rw (piece-some (c .address) (c .end) (on c) (x .source) (omega arith) z, m, n) (ap (λ (k : List Piece). partOf x c ∷ k) from-next)
-
-  -- a mapped part is a piece, or it does not fit
-  turn-mapped : (c .target ≡ 0 → ⊥) → turnOf x p c ≡ cond (fits (partOf x c)) (turned.Piece (partOf x c .to) (shown (partOf x c)) (pulled x p c)) turned.TooLarge
-  unfolding turnOf
-  turn-mapped z =
-      let u = up in
-      rw (lt-ltb (c .address) (min (x .source) (c .end)) (omega arith), ne-eqb (c .target) 0 z, le-leb (c .source) (c .address) (i .begun h))
-
-  turn-zero : c .target ≡ 0 → turnOf x p c ≡ turned.Skip (pulled x p c)
-  turn-zero z = sym (zero-skips (x .source) (x .target) p c (min (x .source) (c .end)) refl z)
+      rw (piece-some (c .address) (c .end) (on c) (x .source) (omega arith) z, m, n) (ap (λ (k : List Piece). turnWith x p c .part ∷ k) from-next)
 
 -- what is yielded of pieces one at a time, where out is yielded of those after the first
 abbrev onePiece : (List Piece → Told (List ℕ)) → List Piece → Told (List ℕ)
 onePiece out [] = value []
-onePiece out (p ∷ l) = cond (fits p) (andThen (out l) (λ (k : List ℕ). value (p .to ∷ (shown p ∷ k)))) (refused 4)
+onePiece out (p ∷ l) = cond (fits p) (andThen (out l) (λ (k : List ℕ). value (p .to ∷ (besideStart p ∷ k)))) (refused 4)
 
 module _ (then : Cursor → Told (List ℕ)) (out : List Piece → Told (List ℕ)) where
-  by-fit : (t : Bool) (f e : ℕ) (c₀ k : Cursor) (w : Cursor → Stepped) (q : List Piece) → then k ≡ out q
-      → yielded (onward c₀ (cond t (turned.Piece f e k) turned.TooLarge) w) then
-      ≡ cond t (andThen (out q) (λ (j : List ℕ). value (f ∷ (e ∷ j)))) (refused 4)
-  by-fit true f e c₀ k w q s = rw s
-  by-fit false f e c₀ k w q s = refl
+  by-fit : (t : Bool) (f e : ℕ) (c₀ k : Cursor) (q : List Piece) → then k ≡ out q
+      → yielded (cond t (piece f e k) (refusedAt 4 c₀)) then ≡ cond t (andThen (out q) (λ (j : List ℕ). value (f ∷ (e ∷ j)))) (refused 4)
+  by-fit true f e c₀ k q s = rw s
+  by-fit false f e c₀ k q s = refl
 
   -- a turn with x, where what follows is known
-  turn-yields : (c₀ c : Cursor) (x : Entry) (l : List Entry) (p : ℕ) (w : Cursor → Stepped) → Inside c (x ∷ l) → c .address < c .end
+  turn-yields : (c₀ c : Cursor) (x : Entry) (l : List Entry) (p : ℕ) (ts : List Turn) → Inside c (x ∷ l) → c .address < c .end
       → then (pulled x p c) ≡ out (come (pulled x p c) l)
-      → yielded (w (pulled x p c)) then ≡ onePiece out (come (pulled x p c) l)
-      → yielded (onward c₀ (turnOf x p c) w) then ≡ onePiece out (come c (x ∷ l))
-  turn-yields c₀ c x l p w i h s g =
+      → yielded (firstPiece c₀ (pulled x p c) ts) then ≡ onePiece out (come (pulled x p c) l)
+      → yielded (firstPiece c₀ c (turnWith x p c ∷ ts)) then ≡ onePiece out (come c (x ∷ l))
+  unfolding firstPiece pieceOr
+  turn-yields c₀ c x l p ts i h s g =
       ⊎-elim
-      (λ (z : c .target ≡ 0). rw (turn-zero c x l p i h z, come-zero c x l p i h z) g)
+      (λ (z : c .target ≡ 0). rw (part-zero x p c z, come-zero c x l p i h z) g)
       (λ (z : 0 < c .target).
-      rw (turn-mapped c x l p i h (λ q. omega arith), come-mapped c x l p i h (λ q. omega arith))
-      (by-fit (fits (partOf x c)) (partOf x c .to) (shown (partOf x c)) c₀ (pulled x p c) w (come (pulled x p c) l) s))
+      let u : c .address < x .source = up c x l p i h in
+      let t = turnWith x p c in
+      rw (part-some x p c (omega arith) (λ q. omega arith), le-leb (c .source) (c .address) (i .begun h), come-mapped c x l p i h (λ q. omega arith))
+      (by-fit (fits (t .part)) (t .part .to) (besideStart (t .part)) c₀ (pulled x p c) (come (pulled x p c) l) s))
       (eq-zero-or-pos (c .target))
-
--- past the last record, as if there were one at the window's end
-abbrev endOf : Cursor → Entry
-endOf c = record { source = c .end; target = 0 }
 
 piece-end : (a b : ℕ) (x : Entry) → b ≤ 4294967295 → pieceOf a b x 4294967296 ≡ pieceOf a b x b
 unfolding pieceOf
@@ -163,14 +145,14 @@ module _ (s : List ℕ) (then : Cursor → Told (List ℕ)) (out : List Piece �
 
   -- a step yields the first piece to come
   walk-yields : (l : List Entry) (c₀ c : Cursor) → rest s (c .place) ≡ l → Inside c l → yielded (walk c₀ l c) then ≡ onePiece out (come c l)
-  unfolding walk nextTurn
+  unfolding turns firstPiece
   walk-yields [] c₀ c at i =
       ⊎-elim
       (λ (h : c .address < c .end).
       let k = pulled (endOf c) (c .place) c in
       let there : Inside c (endOf c ∷ []) = inside-end c i h in
       rw (lt-ltb (c .address) (c .end) h, come-end c (i .small))
-      (turn-yields then out c₀ c (endOf c) [] (c .place) done there h (known k [] at (inside-next c (endOf c) [] (c .place) there h))
+      (turn-yields then out c₀ c (endOf c) [] (c .place) [] there h (known k [] at (inside-next c (endOf c) [] (c .place) there h))
       (rw (empty-window (k .address) (k .end) (omega arith) (on k ∷ [])))))
       (λ (h : c .end ≤ c .address). used-up [] c₀ c h)
       (lt-or-le (c .address) (c .end))
@@ -180,7 +162,7 @@ module _ (s : List ℕ) (then : Cursor → Told (List ℕ)) (out : List Piece �
       let next : Inside (pulled x (c .place + 1) c) l = inside-next c x l (c .place + 1) i h in
       let more : rest s (c .place + 1) ≡ l = tail-is s (c .place) x l at in
       rw (lt-ltb (c .address) (c .end) h)
-      (turn-yields then out c₀ c x l (c .place + 1) (walk c₀ l) i h (known (pulled x (c .place + 1) c) l more next)
+      (turn-yields then out c₀ c x l (c .place + 1) (turns l (pulled x (c .place + 1) c)) i h (known (pulled x (c .place + 1) c) l more next)
       (walk-yields l c₀ (pulled x (c .place + 1) c) more next)))
       (λ (h : c .end ≤ c .address). used-up (x ∷ l) c₀ c h)
       (lt-or-le (c .address) (c .end))
@@ -198,17 +180,18 @@ module _ (present : Bool) (s : List ℕ) (shaped : none ≡ omapShape (ifPresent
       rw (step-good present s (ifPresent present s) c refl shaped, at) (walk-yields (ifPresent present s) (run present s n) (steps n) (run-yields n) l c c at i)
 
 both : (f g : Bool) (x y : ℕ) (l : List ℕ)
-    → cond f (andThen (cond g (value l) (refused 4)) (λ (k : List ℕ). value (x ∷ (y ∷ k)))) (refused 4) ≡ cond (f && g) (value (x ∷ (y ∷ l))) (refused 4)
+    → cond f (andThen (unless (cond g none (some 4)) (value l)) (λ (k : List ℕ). value (x ∷ (y ∷ k)))) (refused 4)
+    ≡ unless (cond (f && g) none (some 4)) (value (x ∷ (y ∷ l)))
 both true true x y l = refl
 both true false x y l = refl
 both false g x y l = refl
 
 -- more steps than pieces yield all of them
 pub steps-all : (n : ℕ) (l : List Piece) → length l < n → steps n l ≡ entries l
-unfolding steps entries allFit flat
+unfolding steps entries sumFault allFit flat
 steps-all zero l h = absurd (omega arith)
 steps-all (suc n) [] h = refl
-steps-all (suc n) (p ∷ l) h = rw (steps-all n l (omega arith)) (both (fits p) (allFit l) (p .to) (shown p) (flat l))
+steps-all (suc n) (p ∷ l) h = rw (steps-all n l (omega arith)) (both (fits p) (allFit l) (p .to) (besideStart p) (flat l))
 
 not-early : (f : Bool) (t : Told (List ℕ)) (x y : ℕ) → (t ≡ refused 6 → ⊥) → cond f (andThen t (λ (k : List ℕ). value (x ∷ (y ∷ k)))) (refused 4) ≡ refused 6 → ⊥
 not-early true (value l) x y g e = let z : _≡_ {A = ℕ} 0 1 = cc in omega arith
@@ -220,4 +203,4 @@ pub steps-early : (n : ℕ) (l : List Piece) → steps n l ≡ refused 6 → ⊥
 unfolding steps
 steps-early zero l e = let z : _≡_ {A = ℕ} 0 1 = cc in omega arith
 steps-early (suc n) [] e = let z : _≡_ {A = ℕ} 0 1 = cc in omega arith
-steps-early (suc n) (p ∷ l) e = not-early (fits p) (steps n l) (p .to) (shown p) (steps-early n l) e
+steps-early (suc n) (p ∷ l) e = not-early (fits p) (steps n l) (p .to) (besideStart p) (steps-early n l) e

@@ -1,38 +1,32 @@
 -- Each promise leaves one answer, and one output: any two results that it allows are equal. An answer can be read back from the
 -- paper's own terms.
 -- Assumes nothing.
-use mathlib.Core.Path.{_≡_, refl, sym, ap, _∙_}
+use mathlib.Core.Path.{_≡_, refl, sym, _∙_}
 use Prim.Native.Nat.{ℕ, _/_}
 use mathlib.Core.Bool.{Bool, cond}
 use mathlib.Core.List.{List}
 use lib.ListN.{length}
 use lib.Dec.{eqb}
 use Rattle.lent.specs.Paper.{Told, value, nothing, refused}
-use Rattle.lent.specs.declared.Refusal.{Refusal}
 use Rattle.lent.specs.declared.Refusal.the-variants.{Length, Count, Order}
+use Rattle.lent.proofs.Answers.{refusal, one-answer}
 use Rattle.omap.specs.Records.{Entry}
 use Rattle.omap.specs.Lookup.{toldRecorded, recordSpec, toldLooked, lookupSpec}
-use Rattle.omap.specs.Output.{Window, counted, refusedAs, refusedFor, toldWindowed, windowSpec, windowOut}
+use Rattle.omap.specs.Output.{toldCounted, countSpec, Window, counted, refusedAs, refusedFor, toldWindowed, windowSpec, windowOut}
 use Rattle.omap.specs.Step.{toldStarted, startSpec, Stepped, piece, done, refusedAt, toldStep, stepSpec}
 use Rattle.omap.specs.declared.Recorded.{Recorded}
 use Rattle.omap.specs.declared.Recorded.the-variants as recorded
 use Rattle.omap.specs.declared.Looked.{Looked}
 use Rattle.omap.specs.declared.Looked.the-variants as looked
-use Rattle.omap.specs.declared.window.Windowed.{Windowed}
-use Rattle.omap.specs.declared.window.Windowed.the-variants as windowed
+use Rattle.omap.specs.declared.windows.Counted.{Counted}
+use Rattle.omap.specs.declared.windows.Counted.the-variants as count
+use Rattle.omap.specs.declared.windows.Windowed.{Windowed}
+use Rattle.omap.specs.declared.windows.Windowed.the-variants as windowed
 use Rattle.omap.specs.declared.cursor.Cursor.{Cursor}
 use Rattle.omap.specs.declared.cursor.Started.{Started}
 use Rattle.omap.specs.declared.cursor.Started.the-variants as started
 use Rattle.omap.specs.declared.cursor.Step.{Step}
 use Rattle.omap.specs.declared.cursor.Step.the-variants as step
-
--- the refusal of a table by its number
-abbrev pub refusal : ℕ → Refusal
-refusal n = cond (eqb n 1) Length (cond (eqb n 2) Count Order)
-
--- two answers that read as t are one, where an answer can be read back
-pub one-answer : {A B : Type 0} (told : A → B) (back : B → A) → ((x : A) → back (told x) ≡ x) → (t : B) (r q : A) → told r ≡ t → told q ≡ t → r ≡ q
-one-answer told back is t r q e f = sym (is r) ∙ ap back (e ∙ sym f) ∙ is q
 
 abbrev recordedBack : Told Entry → Recorded
 recordedBack (value e) = recorded.Record (e .source) (e .target)
@@ -64,6 +58,21 @@ looked-back looked.TooLarge = refl
 
 pub one-lookup : (present : Bool) (s : List ℕ) (a : ℕ) (r q : Looked) → toldLooked r ≡ lookupSpec present s a → toldLooked q ≡ lookupSpec present s a → r ≡ q
 one-lookup present s a = one-answer toldLooked lookedBack looked-back (lookupSpec present s a)
+
+abbrev countedBack : Told ℕ → Counted
+countedBack (value n) = count.Pieces n
+countedBack nothing = count.TooLarge
+countedBack (refused n) = cond (eqb n 4) count.TooLarge (count.Refused (refusal n))
+
+counted-back : (r : Counted) → countedBack (toldCounted r) ≡ r
+counted-back (count.Pieces n) = refl
+counted-back (count.Refused Length) = refl
+counted-back (count.Refused Count) = refl
+counted-back (count.Refused Order) = refl
+counted-back count.TooLarge = refl
+
+pub one-count : (present : Bool) (s : List ℕ) (a b : ℕ) (r q : Counted) → toldCounted r ≡ countSpec present s a b → toldCounted q ≡ countSpec present s a b → r ≡ q
+one-count present s a b = one-answer toldCounted countedBack counted-back (countSpec present s a b)
 
 abbrev windowedBack : Window → Windowed
 windowedBack (counted n) = windowed.Pieces n
@@ -103,16 +112,16 @@ pub one-start : (present : Bool) (s : List ℕ) (a b : ℕ) (r q : Started) → 
 one-start present s a b = one-answer toldStarted startedBack started-back (startSpec present s a b)
 
 abbrev steppedBack : Stepped → Step
-steppedBack (piece start end c) = step.Piece start end c
+steppedBack (piece start end c) = step.Piece c start end
 steppedBack (done c) = step.Done c
-steppedBack (refusedAt n c) = cond (eqb n 4) (step.TooLarge c) (cond (eqb n 6) (step.Early c) (step.Refused (refusal n) c))
+steppedBack (refusedAt n c) = cond (eqb n 4) (step.TooLarge c) (cond (eqb n 6) (step.Early c) (step.Refused c (refusal n)))
 
 stepped-back : (r : Step) → steppedBack (toldStep r) ≡ r
-stepped-back (step.Piece start end c) = refl
+stepped-back (step.Piece c start end) = refl
 stepped-back (step.Done c) = refl
-stepped-back (step.Refused Length c) = refl
-stepped-back (step.Refused Count c) = refl
-stepped-back (step.Refused Order c) = refl
+stepped-back (step.Refused c Length) = refl
+stepped-back (step.Refused c Count) = refl
+stepped-back (step.Refused c Order) = refl
 stepped-back (step.Early c) = refl
 stepped-back (step.TooLarge c) = refl
 

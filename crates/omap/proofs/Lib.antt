@@ -1,6 +1,8 @@
 pub mod Last
 pub mod Lookups
 pub mod Pieces
+pub mod Walking
+pub mod Counting
 pub mod Filling
 pub mod Outputs
 pub mod Expansion

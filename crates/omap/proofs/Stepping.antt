@@ -18,14 +18,15 @@ use Rattle.lent.proofs.Logic.{lt-or-le}
 use Rattle.lent.proofs.Rising.{after-rising}
 use Rattle.omap.specs.Records.{Entry, entryAt, records, rest, sources, holderOf}
 use Rattle.omap.specs.Window.{nextOf, pieces, windowPieces}
-use Rattle.omap.specs.Output.{allFit, flat}
+use Rattle.omap.specs.Output.{allFit, sumFault, flat}
 use Rattle.omap.specs.Step.{countUpTo, onto, startOn, startSpec}
 use Rattle.omap.specs.Run.{run, entries}
 use Rattle.omap.specs.declared.cursor.Cursor.{Cursor}
 use Rattle.omap.proofs.Last.{sources-keys, in-order, first-above, rest-above}
 use Rattle.omap.proofs.Pieces.{piece-empty, piece-zero}
 use Rattle.omap.proofs.Expansion.{above-none}
-use Rattle.omap.proofs.Coming.{on, empty-window, steps, run-yields, steps-all, steps-early}
+use Rattle.omap.specs.Turn.{on}
+use Rattle.omap.proofs.Coming.{empty-window, steps, run-yields, steps-all, steps-early}
 
 -- where a cursor starts: x is the last of some records at or below a, and l those after it
 record Begins (a b : ℕ) (all : List Entry) (x : Entry) (l : List Entry) : Type 0 where
@@ -157,7 +158,7 @@ stepping present s a b c e w n h = yields present s a b c e w n ∙ steps-all n 
 pub stepping-fits : (present : Bool) (s : List ℕ) (a b : ℕ) (c : Cursor) → startSpec present s a b ≡ value c → b ≤ 4294967295
     → allFit (windowPieces present s a b) ≡ true
     → (n : ℕ) → length (windowPieces present s a b) < n → run present s n c ≡ value (flat (windowPieces present s a b))
-unfolding entries
+unfolding entries sumFault
 stepping-fits present s a b c e w f n h = stepping present s a b c e w n h ∙ rw f
 
 -- a started cursor never meets refusal 6

@@ -5,5 +5,6 @@ pub mod Output
 pub mod Expand
 pub mod Turn
 pub mod Step
+pub mod Turned
 pub mod Run
-pub mod Part
+pub mod Walk

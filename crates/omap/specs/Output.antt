@@ -1,4 +1,4 @@
--- What a piece shows, and what the whole-window call answers and leaves in the lent output.
+-- What the window's calls answer, and what the writing one leaves in the lent output.
 use Prim.Native.Nat.{ℕ, _+_, _/_}
 use mathlib.Core.Bool.{Bool, true, cond, _&&_}
 use mathlib.Core.List.{List, [], _∷_}
@@ -6,28 +6,51 @@ use mathlib.Core.Option.{Option, none, some}
 use lib.ListN.{length}
 use lib.Dec.{leb}
 use Rattle.lent.specs.Order.{omapFault}
-use Rattle.lent.specs.Paper.{number}
+use Rattle.lent.specs.Paper.{Told, value, refused, firstOf, unless, number}
 use Rattle.lent.specs.Words.{writtenOver}
 use Rattle.omap.specs.Window.{Piece, windowPieces}
-use Rattle.omap.specs.declared.window.Windowed.{Windowed}
-use Rattle.omap.specs.declared.window.Windowed.the-variants as windowed
+use Rattle.omap.specs.declared.windows.Counted.{Counted}
+use Rattle.omap.specs.declared.windows.Counted.the-variants as count
+use Rattle.omap.specs.declared.windows.Windowed.{Windowed}
+use Rattle.omap.specs.declared.windows.Windowed.the-variants as windowed
 
 -- beside its start a piece shows its excluded end
-unfoldable pub shown : Piece → ℕ
-shown p = p .to + p .size
+unfoldable pub besideStart : Piece → ℕ
+besideStart p = p .to + p .size
 
--- what a piece shows fits 32 bits
+-- a piece fits if its excluded end is at most FFFFFFFF
 unfoldable pub fits : Piece → Bool
-fits p = leb (shown p) 4294967295
+fits p = leb (p .to + p .size) 4294967295
 
 unfoldable pub allFit : List Piece → Bool
 allFit [] = true
 allFit (p ∷ l) = fits p && allFit l
 
+-- 4: a piece does not fit
+unfoldable pub sumFault : List Piece → Option ℕ
+sumFault l = cond (allFit l) none (some 4)
+
+-- 1, 2, 3 of a table behind its mark
+abbrev pub markedFault : Bool → List ℕ → Option ℕ
+markedFault present s = cond present (omapFault s) none
+
+-- the refusals of a window: 1, 2, 3 of its table, then 4 of its pieces
+unfoldable pub windowFault : Bool → List ℕ → ℕ → ℕ → Option ℕ
+windowFault present s a b = firstOf (markedFault present s) (sumFault (windowPieces present s a b))
+
+-- how many pieces a window has: 1, 2, 3, 4 or the number
+unfoldable pub countSpec : Bool → List ℕ → ℕ → ℕ → Told ℕ
+countSpec present s a b = unless (windowFault present s a b) (value (length (windowPieces present s a b)))
+
+abbrev pub toldCounted : Counted → Told ℕ
+toldCounted (count.Pieces n) = value n
+toldCounted (count.Refused why) = refused (number why)
+toldCounted count.TooLarge = refused 4
+
 -- the pieces as pairs
 unfoldable pub flat : List Piece → List ℕ
 flat [] = []
-flat (p ∷ l) = p .to ∷ (shown p ∷ flat l)
+flat (p ∷ l) = p .to ∷ (besideStart p ∷ flat l)
 
 -- an answer about a window: the number of its pieces; a refusal; a refusal that tells the number of entries needed
 pub data Window : Type 0 where
@@ -41,18 +64,18 @@ toldWindowed (windowed.Refused why) = refusedAs (number why)
 toldWindowed windowed.TooLarge = refusedAs 4
 toldWindowed (windowed.Short n) = refusedFor 5 n
 
--- 4 if a piece does not fit; 5, and the number needed, if there are more pieces than room for entries
-unfoldable pub roomFor : List Piece → ℕ → Window
-roomFor l room = cond (allFit l) (cond (leb (length l) room) (counted (length l)) (refusedFor 5 (length l))) (refusedAs 4)
+-- n pieces; or 5, and the number needed, if there are more than room for entries
+unfoldable pub roomFor : ℕ → ℕ → Window
+roomFor n room = cond (leb n room) (counted n) (refusedFor 5 n)
 
--- the refusal of a table, if it gives one, comes first
+-- a refusal of the window, if it gives one, comes first
 abbrev pub unlessFault : Option ℕ → Window → Window
 unlessFault none w = w
 unlessFault (some n) w = refusedAs n
 
 -- the whole-window call, with room for so many entries: 1, 2, 3, 4, 5 or the number of pieces
 unfoldable pub windowSpec : Bool → List ℕ → ℕ → ℕ → ℕ → Window
-windowSpec present s a b room = unlessFault (cond present (omapFault s) none) (roomFor (windowPieces present s a b) room)
+windowSpec present s a b room = unlessFault (windowFault present s a b) (roomFor (length (windowPieces present s a b)) room)
 
 -- only a call that is not refused writes
 abbrev pub outAfter : {A : Type 0} → Window → List A → List A → List A

@@ -1,10 +1,10 @@
 -- A cursor stepped to its end.
 use Prim.Native.Nat.{ℕ, zero, suc}
-use mathlib.Core.Bool.{Bool, cond}
+use mathlib.Core.Bool.{Bool}
 use mathlib.Core.List.{List, [], _∷_}
-use Rattle.lent.specs.Paper.{Told, value, nothing, refused, andThen}
+use Rattle.lent.specs.Paper.{Told, value, nothing, refused, unless, andThen}
 use Rattle.omap.specs.Window.{Piece}
-use Rattle.omap.specs.Output.{allFit, flat}
+use Rattle.omap.specs.Output.{sumFault, flat}
 use Rattle.omap.specs.Step.{Stepped, piece, done, refusedAt, stepSpec}
 use Rattle.omap.specs.declared.cursor.Cursor.{Cursor}
 
@@ -21,4 +21,4 @@ run present s (suc n) c = yielded (stepSpec present s c) (run present s n)
 
 -- the pieces of a window as pairs, or 4 if one does not fit
 unfoldable pub entries : List Piece → Told (List ℕ)
-entries l = cond (allFit l) (value (flat l)) (refused 4)
+entries l = unless (sumFault l) (value (flat l))

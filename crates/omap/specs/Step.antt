@@ -1,17 +1,16 @@
 -- A range cursor by value: where it starts, and its step on any table, field by field as `lookup_range` and `RangeIter::next` go.
-use Prim.Native.Nat.{ℕ, zero, suc}
-use mathlib.Core.Bool.{Bool, cond}
+use Prim.Native.Nat.{ℕ, suc}
+use mathlib.Core.Bool.{Bool, cond, not, _&&_}
 use mathlib.Core.List.{List, [], _∷_}
 use mathlib.Core.Option.{Option, none, some}
 use lib.ListN.{length}
-use lib.Dec.{ltb, leb}
+use lib.Dec.{ltb, leb, eqb}
 use Rattle.lent.specs.Order.{omapFault}
 use Rattle.lent.specs.Paper.{Told, value, refused, unless, number}
 use Rattle.lent.specs.Table.{ifPresent, omapShape}
 use Rattle.omap.specs.Records.{Entry, records, rest, holderOf}
-use Rattle.omap.specs.Turn.{nextTurn}
-use Rattle.omap.specs.declared.cursor.Turned.{Turned}
-use Rattle.omap.specs.declared.cursor.Turned.the-variants as turned
+use Rattle.omap.specs.Output.{besideStart, fits}
+use Rattle.omap.specs.Turn.{Turn, turns}
 use Rattle.omap.specs.declared.cursor.Cursor.{Cursor}
 use Rattle.omap.specs.declared.cursor.Started.{Started}
 use Rattle.omap.specs.declared.cursor.Started.the-variants as started
@@ -54,23 +53,27 @@ pub data Stepped : Type 0 where
   refusedAt : ℕ → Cursor → Stepped
 
 abbrev pub toldStep : Step → Stepped
-toldStep (step.Piece start end c) = piece start end c
+toldStep (step.Piece c start end) = piece start end c
 toldStep (step.Done c) = done c
-toldStep (step.Refused why c) = refusedAt (number why) c
+toldStep (step.Refused c why) = refusedAt (number why) c
 toldStep (step.Early c) = refusedAt 6 c
 toldStep (step.TooLarge c) = refusedAt 4 c
 
--- what a turn means for the step of the cursor c₀; after a skip the turns go on
-abbrev pub onward : Cursor → Turned → (Cursor → Stepped) → Stepped
-onward c₀ (turned.Piece f t c) on = piece f t c
-onward c₀ (turned.Skip c) on = on c
-onward c₀ turned.Early on = refusedAt 6 c₀
-onward c₀ turned.TooLarge on = refusedAt 4 c₀
+-- a part is translated if it is not empty and its record is mapped
+unfoldable pub translated : Turn → Bool
+translated t = ltb 0 (t .part .size) && not (eqb (t .owner .target) 0)
 
--- turns until there is an answer or the window is used up
-unfoldable pub walk : Cursor → List Entry → Cursor → Stepped
-walk c₀ [] c = cond (ltb (c .address) (c .end)) (onward c₀ (nextTurn [] c) done) (done c)
-walk c₀ (x ∷ l) c = cond (ltb (c .address) (c .end)) (onward c₀ (nextTurn (x ∷ l) c) (walk c₀ l)) (done c)
+-- 6 if it begins before its record's source, 4 if it does not fit, or the piece, in a step of the cursor c
+unfoldable pub pieceOr : Cursor → Turn → Stepped
+pieceOr c t =
+    cond (leb (t .owner .source) (t .part .at))
+    (cond (fits (t .part)) (piece (t .part .to) (besideStart (t .part)) (t .after)) (refusedAt 4 c))
+    (refusedAt 6 c)
+
+-- the answer at the first turn whose part is translated; if there is none, done behind the last of them, or at k
+unfoldable pub firstPiece : Cursor → Cursor → List Turn → Stepped
+firstPiece c k [] = done k
+firstPiece c k (t ∷ l) = cond (translated t) (pieceOr c t) (firstPiece c (t .after) l)
 
 abbrev pub unlessStep : Option ℕ → Cursor → Stepped → Stepped
 unlessStep none c t = t
@@ -78,4 +81,5 @@ unlessStep (some n) c t = refusedAt n c
 
 -- 1, 2, 6, 4, a piece, or done; a table marked absent has no records
 unfoldable pub stepSpec : Bool → List ℕ → Cursor → Stepped
-stepSpec present s c = unlessStep (omapShape (ifPresent present s)) c (walk c (rest (ifPresent present s) (c .place)) c)
+stepSpec present s c =
+    unlessStep (omapShape (ifPresent present s)) c (firstPiece c c (turns (rest (ifPresent present s) (c .place)) c))

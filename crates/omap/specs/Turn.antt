@@ -1,37 +1,41 @@
--- One turn of a range cursor, field by field as the body of `RangeIter::next` goes.
+-- The turns of a range cursor, as the body of `RangeIter::next` takes them: each passes the part of the window that one
+-- record owns, up to the source of the next one.
 use Prim.Native.Nat.{ℕ, _+_, _-_, min}
-use mathlib.Core.Bool.{cond, not, _&&_}
+use mathlib.Core.Bool.{cond}
 use mathlib.Core.List.{List, [], _∷_}
-use lib.Dec.{ltb, leb, eqb}
+use lib.Dec.{ltb}
 use Rattle.omap.specs.Records.{Entry}
 use Rattle.omap.specs.Window.{Piece}
-use Rattle.omap.specs.Output.{shown, fits}
 use Rattle.omap.specs.declared.cursor.Cursor.{Cursor}
-use Rattle.omap.specs.declared.cursor.Turned.{Turned}
-use Rattle.omap.specs.declared.cursor.Turned.the-variants as turned
+
+-- the record that a cursor is on
+abbrev pub on : Cursor → Entry
+on c = record { source = c .source; target = c .target }
 
 -- the cursor once it has pulled x, with p as the place after it
 abbrev pub pulled : Entry → ℕ → Cursor → Cursor
 pulled x p c = record { address = min (x .source) (c .end); end = c .end; source = x .source; target = x .target; place = p }
 
--- the part of c's record up to x's source, translated
-abbrev pub partOf : Entry → Cursor → Piece
-partOf x c = record { at = c .address; size = min (x .source) (c .end) - c .address; to = c .address - c .source + c .target }
+-- a turn: the record that owns the part, the part up to the next source, translated, and the cursor behind it
+pub record Turn : Type 0 where
+  pub owner : Entry
+  pub part : Piece
+  pub after : Cursor
 
--- x is pulled, and the part before it is skipped if it is empty or unmapped, refused 6 if it begins before its record's
--- source, refused 4 if it does not fit, or a piece
-unfoldable pub turnOf : Entry → ℕ → Cursor → Turned
-turnOf x p c =
-    cond (ltb (c .address) (min (x .source) (c .end)) && not (eqb (c .target) 0))
-    (cond (leb (c .source) (c .address))
-    (cond (fits (partOf x c)) (turned.Piece (partOf x c .to) (shown (partOf x c)) (pulled x p c)) turned.TooLarge)
-    turned.Early)
-    (turned.Skip (pulled x p c))
+abbrev pub turnWith : Entry → ℕ → Cursor → Turn
+turnWith x p c =
+    record {
+      owner = on c;
+      part = record { at = c .address; size = min (x .source) (c .end) - c .address; to = c .address - c .source + c .target };
+      after = pulled x p c;
+    }
 
-abbrev pub turnAt : ℕ → ℕ → ℕ → Cursor → Turned
-turnAt source target p c = turnOf (record { source = source; target = target }) p c
+-- past the last record it is as if there were one at the window's end whose target is 0
+abbrev pub endOf : Cursor → Entry
+endOf c = record { source = c .end; target = 0 }
 
--- the turn with the first record left; past the last, with a record at the window's end whose target is 0
-unfoldable pub nextTurn : List Entry → Cursor → Turned
-nextTurn [] c = turnAt (c .end) 0 (c .place) c
-nextTurn (x ∷ l) c = turnOf x (c .place + 1) c
+-- the turns until the window is used up, where l are the records not yet pulled
+unfoldable pub turns : List Entry → Cursor → List Turn
+turns [] c = cond (ltb (c .address) (c .end)) (turnWith (endOf c) (c .place) c ∷ []) []
+turns (x ∷ l) c =
+    cond (ltb (c .address) (c .end)) (turnWith x (c .place + 1) c ∷ turns l (pulled x (c .place + 1) c)) []

@@ -6,12 +6,9 @@ use mathlib.Core.Option.{Option, none, some}
 use lib.Dec.{ltb, eqb}
 use Rattle.lent.specs.Words.{put}
 use Rattle.omap.specs.Records.{Entry, records}
+pub use Rattle.omap.specs.declared.walk.Piece.{Piece}
 
--- a mapped piece: where it starts in the window, how many addresses it has, and where they go
-pub record Piece : Type 0 where
-  pub at : ℕ
-  pub size : ℕ
-  pub to : ℕ
+-- A mapped piece, `Piece`: `at` is where it starts in the window, `size` how many addresses it has, `to` where they go.
 
 -- where the record before l ends: at the next source; the last one reaches to the end of 32 bits
 unfoldable pub nextOf : List Entry → ℕ
@@ -32,8 +29,11 @@ pieces a b (x ∷ l) = put (pieceOf a b x (nextOf l)) (pieces a b l)
 
 -- what stands in for a table marked absent, as `RangeIter::identity` has it: one record that takes a to itself,
 -- so that a..b is one piece, and none where a is 0
+abbrev pub itself : ℕ → Entry
+itself a = record { source = a; target = a }
+
 abbrev pub identity : ℕ → List Entry
-identity a = record { source = a; target = a } ∷ []
+identity a = itself a ∷ []
 
 -- the pieces of a window of a table behind its mark
 abbrev pub windowPieces : Bool → List ℕ → ℕ → ℕ → List Piece

@@ -1,10 +1,13 @@
 // A cursor over the pieces of a window, by value: `RangeIter` of pdb, with its table beside it.
 ghost use mathlib.Core.Path.{_≡_};
 ghost use mathlib.Core.Bool.{true};
-ghost use Prim.Native.Nat.{min};
 ghost use Rattle.omap.specs.Records.{rest};
 ghost use Rattle.omap.specs.Step.{toldStarted, startSpec, toldStep, stepSpec};
-ghost use Rattle.omap.specs.Turn.{turnAt, nextTurn};
+ghost use Rattle.omap.specs.Turn.{turnWith};
+ghost use Rattle.omap.specs.Turned.{nextTurn, turnedBy};
+use crate::walk::Piece;
+use crate::walk::beside_start;
+use crate::walk::fits;
 use lent::Checked;
 use lent::Refusal;
 
@@ -26,13 +29,13 @@ pub enum Started {
     Refused(Refusal),
 }
 
-// What a step answers. Every answer hands a cursor back: with a refusal, the one that was stepped.
+// What a step answers. Every answer hands a cursor back, and has it first: with a refusal, the one that was stepped.
 pub enum Step {
-    // A piece's start and end, and the next cursor.
-    Piece(u32, u32, Cursor),
+    // The next cursor, and a piece's start and end.
+    Piece(Cursor, u32, u32),
     // No piece is left; the cursor as it is left behind.
     Done(Cursor),
-    Refused(Refusal, Cursor),
+    Refused(Cursor, Refusal),
     // Refusal 6: the piece begins before its record's source.
     Early(Cursor),
     // Refusal 4: the piece does not fit 32 bits.
@@ -41,23 +44,17 @@ pub enum Step {
 
 // What one turn of a step finds.
 enum Turned {
-    Piece(u32, u32, Cursor),
+    Piece(Cursor, u32, u32),
     Skip(Cursor),
     Early,
     TooLarge,
 }
 
-fn least(x: u32, y: u32) -> u32
-    ensures { λ r. ⌜ r ≡ min x y ⌝ }
-{
-    if x < y { x } else { y }
-}
-
 // One turn of the cursor c with a record pulled, and the place after it.
 fn turn(c: Cursor, source: u32, target: u32, place: usize) -> Turned
-    ensures { λ r. ⌜ r ≡ turnAt source target place c ⌝ }
+    ensures { λ r. ⌜ r ≡ turnedBy (turnWith (record { source = source; target = target }) place c) ⌝ }
 {
-    let stop = least(source, c.end);
+    let stop = lent::smaller(source, c.end);
     let next = Cursor {
         address: stop,
         end: c.end,
@@ -74,9 +71,13 @@ fn turn(c: Cursor, source: u32, target: u32, place: usize) -> Turned
     if c.address < c.source {
         return Turned::Early;
     }
-    let into = stop - c.source;
-    if into <= 4294967295 - c.target {
-        Turned::Piece(c.address - c.source + c.target, into + c.target, next)
+    let piece = Piece {
+        at: c.address as u64,
+        size: (stop - c.address) as u64,
+        to: (c.address - c.source) as u64 + c.target as u64,
+    };
+    if fits(piece) {
+        Turned::Piece(next, piece.to as u32, beside_start(piece) as u32)
     } else {
         Turned::TooLarge
     }
@@ -84,12 +85,12 @@ fn turn(c: Cursor, source: u32, target: u32, place: usize) -> Turned
 
 // One turn with the next record of the table, or with one at the window's end.
 fn pull(table: &[u8], c: Cursor) -> Turned
-    ensures { λ r. ⌜ r ≡ nextTurn (rest (now (table .entry)) (c .place)) c ⌝ }
+    ensures { λ r. ⌜ r ≡ turnedBy (nextTurn (rest (now (table .entry)) (c .place)) c) ⌝ }
 {
     let place = c.place;
-    if place < table.len() / 8 {
-        let source = lent::u32_at(table, 8 * place);
-        let target = lent::u32_at(table, 8 * place + 4);
+    if place < table.len() / lent::OMAP {
+        let source = lent::u32_at(table, lent::OMAP * place);
+        let target = lent::u32_at(table, lent::OMAP * place + 4);
         turn(c, source, target, place + 1)
     } else {
         turn(c, c.end, 0, place)
@@ -110,10 +111,10 @@ fn start_in(table: &[u8], a: u32, b: u32) -> Started
             end: 0,
             source: 0,
             target: 0,
-            place: table.len() / 8,
+            place: table.len() / lent::OMAP,
         });
     }
-    let k = lent::first_above(table, 8, a);
+    let k = lent::first_above(table, lent::OMAP, a);
     if k == 0 {
         return Started::At(Cursor {
             address: a,
@@ -127,8 +128,8 @@ fn start_in(table: &[u8], a: u32, b: u32) -> Started
     Started::At(Cursor {
         address: a,
         end: b,
-        source: lent::u32_at(table, 8 * at),
-        target: lent::u32_at(table, 8 * at + 4),
+        source: lent::u32_at(table, lent::OMAP * at),
+        target: lent::u32_at(table, lent::OMAP * at + 4),
         place: k,
     })
 }
@@ -156,16 +157,16 @@ impl Cursor {
         ensures { λ r. ⌜ toldStep r ≡ stepSpec present (now (table .entry)) self ⌝ }
     {
         let from = self;
-        let held = lent::if_present(present, table);
-        let shaped = lent::omap_shape(held);
+        let records = lent::if_present(present, table);
+        let shaped = lent::omap_shape(records);
         if let Checked::Refused(why) = shaped {
-            return Step::Refused(why, from);
+            return Step::Refused(from, why);
         }
         while self.address < self.end {
-            let turned = pull(held, self);
+            let turned = pull(records, self);
             match turned {
-                Turned::Piece(start, end, next) => {
-                    return Step::Piece(start, end, next);
+                Turned::Piece(next, start, end) => {
+                    return Step::Piece(next, start, end);
                 }
                 Turned::Skip(next) => {
                     self = next;

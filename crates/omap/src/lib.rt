@@ -4,7 +4,8 @@ ghost use mathlib.Core.Bool.{true};
 ghost use Rattle.omap.specs.Lookup.{toldRecorded, recordSpec, toldLooked, lookupSpec};
 
 pub mod cursor;
-pub mod window;
+pub mod walk;
+pub mod windows;
 
 use lent::Checked;
 use lent::Refusal;
@@ -35,9 +36,9 @@ pub fn record_at(table: &[u8], place: usize) -> Recorded
     if let Checked::Refused(why) = shaped {
         return Recorded::Refused(why);
     }
-    if place < table.len() / 8 {
-        let source = lent::u32_at(table, 8 * place);
-        let target = lent::u32_at(table, 8 * place + 4);
+    if place < table.len() / lent::OMAP {
+        let source = lent::u32_at(table, lent::OMAP * place);
+        let target = lent::u32_at(table, lent::OMAP * place + 4);
         Recorded::Record(source, target)
     } else {
         Recorded::Nothing
@@ -64,13 +65,13 @@ fn look(table: &[u8], address: u32) -> Looked
     if let Checked::Refused(why) = checked {
         return Looked::Refused(why);
     }
-    let k = lent::first_above(table, 8, address);
+    let k = lent::first_above(table, lent::OMAP, address);
     if k == 0 {
         return Looked::Nothing;
     }
     let at = k - 1;
-    let source = lent::u32_at(table, 8 * at);
-    let target = lent::u32_at(table, 8 * at + 4);
+    let source = lent::u32_at(table, lent::OMAP * at);
+    let target = lent::u32_at(table, lent::OMAP * at + 4);
     if target == 0 {
         return Looked::Nothing;
     }

@@ -1,8 +1,9 @@
 -- `omap::cursor::pull` meets its contract.
 -- Assumes nothing.
-use mathlib.Core.Path.{sym, _∙_}
+use mathlib.Core.Path.{sym, ap, _∙_}
 use native.Mathlib.Omega.{arith}
 use denote.Ref.{now}
+use Rattle.omap.specs.Turned.{turnedBy}
 use Rattle.omap.proofs.Turns.{next-record, next-end}
 use borrow.Author.Needs.{needs}
 use Rattle.omap.proofs.cursor.pull.Statement.{statement}
@@ -35,12 +36,12 @@ turn-requires-2 c κs = search needs
 returns : tie.Need-returns
 returns c =
     let a = c .before .before .before .before .before .args in
-    c .turn .ensures ∙ rw (c .before .before .u32-at .ensures, c .before .u32-at2 .ensures) (sym (next-record (now (a .table)) (a .c) (omega arith)))
+    c .turn .ensures ∙ rw (c .before .before .u32-at .ensures, c .before .u32-at2 .ensures) (ap turnedBy (sym (next-record (now (a .table)) (a .c) (omega arith))))
 
 returns-2 : tie.Need-returns-2
 returns-2 c =
     let a = c .before .before .before .args in
-    c .turn2 .ensures ∙ sym (next-end (now (a .table)) (a .c) (omega arith))
+    c .turn2 .ensures ∙ ap turnedBy (sym (next-end (now (a .table)) (a .c) (omega arith)))
 
 pub pull-spec : {M : Type 1} → statement M
 pull-spec =

@@ -4,7 +4,7 @@ use borrow.Author.Needs.{needs}
 use Rattle.lent.specs.Paper.{number, toldChecked}
 use Rattle.omap.specs.Step.{piece, refusedAt}
 use Rattle.omap.specs.declared.cursor.Turned.the-variants.{Piece, Early, TooLarge}
-use Rattle.omap.proofs.Turns.{step-refused, step-good, walk-done, walk-ends, Onward, skipped}
+use Rattle.omap.proofs.Turns.{walk, step-refused, step-good, walk-done, walk-ends, Onward, skipped}
 use Prim.Native.Nat.{ℕ, _+_, _-_, _/_, min}
 use mathlib.Core.Path.{_≡_, refl, sym, ap, _∙_}
 use native.Mathlib.Omega.{arith}
@@ -12,21 +12,21 @@ use lib.ListN.{length}
 use mathlib.Core.List.{List}
 use denote.Ref.{now}
 use Rattle.omap.specs.Records.{rest}
-use Rattle.omap.specs.Step.{walk, stepSpec}
+use Rattle.omap.specs.Step.{stepSpec}
 use Rattle.omap.proofs.cursor.Cursor.step.Statement.{statement}
 use Rattle.omap.proofs.cursor.Cursor.step.Tie as tie
 
 abbrev Inv-loop : tie.InvT-loop
-Inv-loop self₀ present table from ifPresent self = stepSpec present table self₀ ≡ walk self₀ (rest ifPresent (self .place)) self
+Inv-loop self₀ present table from records self = stepSpec present table self₀ ≡ walk self₀ (rest records (self .place)) self
 
 abbrev μ-loop : tie.MeasureT-loop
-μ-loop self₀ present table from ifPresent self = (length ifPresent / 8 - self .place) + min 1 (self .end - self .address)
+μ-loop self₀ present table from records self = (length records / 8 - self .place) + min 1 (self .end - self .address)
 
 if-present-requires : tie.Need-if-present-requires Inv-loop μ-loop
 if-present-requires c κs = search needs
 
 omap-shape-requires : tie.Need-omap-shape-requires Inv-loop μ-loop
-omap-shape-requires c κs = omega arith
+omap-shape-requires c κs = search needs
 
 enum-known-shaped : tie.Need-enum-known-shaped Inv-loop μ-loop
 enum-known-shaped c = search needs
@@ -61,7 +61,7 @@ returns-2 c =
     let k = l .loop .self in
     let v = c .before .turned .given .0 in
     sym (l .loop .inv ∙ walk-ends (rest (now (l .before .before .before .before .if-present .result)) (k .place)) (a .self) k (omega arith) (Piece (v .0) (v .1 .0) (v .1 .1 .0))
-    (sym (c .before .before .before .pull .ensures) ∙ c .before .turned .given .1) (piece (v .0) (v .1 .0) (v .1 .1 .0)) (λ on. refl))
+    (sym (c .before .turned .given .1) ∙ c .before .before .before .pull .ensures) (piece (v .1 .0) (v .1 .1 .0) (v .0)) (λ on. refl))
 
 enum-known-turned-2 : tie.Need-enum-known-turned-2 Inv-loop μ-loop
 enum-known-turned-2 c = search needs
@@ -77,7 +77,7 @@ module _ (c : tie.After-known-told3 Inv-loop μ-loop) where
   on : Onward h (at .before .before .before .before .before .before .args .self) (at .loop .self) (c .before .turned2 .given .0 .0)
   on =
       skipped h (at .before .before .before .before .before .before .args .self) (at .loop .self) (c .before .turned2 .given .0 .0) (omega arith)
-      (sym (c .before .before .before .pull .ensures) ∙ c .before .turned2 .given .1)
+      (sym (c .before .turned2 .given .1) ∙ c .before .before .before .pull .ensures)
 
 loop-less : tie.Need-loop-less Inv-loop μ-loop
 loop-less c = on c .less
@@ -94,7 +94,7 @@ returns-3 c =
     let a = l .before .before .before .before .before .before .args in
     let k = l .loop .self in
     sym (l .loop .inv ∙ walk-ends (rest (now (l .before .before .before .before .if-present .result)) (k .place)) (a .self) k (omega arith) Early
-    (sym (c .before .before .pull .ensures) ∙ c .enum-told2 .given .1) (refusedAt 6 (a .self)) (λ on. refl))
+    (sym (c .enum-told2 .given .1) ∙ c .before .before .pull .ensures) (refusedAt 6 (a .self)) (λ on. refl))
 
 enum-told-3 : tie.Need-enum-told-3 Inv-loop μ-loop
 enum-told-3 c = search needs
@@ -105,7 +105,7 @@ returns-4 c =
     let a = l .before .before .before .before .before .before .args in
     let k = l .loop .self in
     sym (l .loop .inv ∙ walk-ends (rest (now (l .before .before .before .before .if-present .result)) (k .place)) (a .self) k (omega arith) TooLarge
-    (sym (c .before .before .pull .ensures) ∙ c .enum-told3 .given .1) (refusedAt 4 (a .self)) (λ on. refl))
+    (sym (c .enum-told3 .given .1) ∙ c .before .before .pull .ensures) (refusedAt 4 (a .self)) (λ on. refl))
 
 returns-5 : tie.Need-returns-5 Inv-loop μ-loop
 returns-5 c =
