@@ -1,7 +1,7 @@
 -- All of document 01's starred cases, as one statement over a list of them: those of crate omap on translation and window, and
 -- those on the clash check and the way back, in the table T.
 -- Assumes nothing.
-use mathlib.Core.Path.{_≡_}
+use mathlib.Core.Path.{_≡_, refl}
 use Prim.Native.Nat.{ℕ}
 use native.Mathlib.Omega.{arith}
 use mathlib.Core.List.{List, [], _∷_, _++_, map}
@@ -14,12 +14,12 @@ use Rattle.lent.specs.Order.{risingAfter, rising, tableFault, lastAt}
 use Rattle.omap.specs.Records.{records, holderOf, moved, single}
 use Rattle.omap.specs.Lookup.{lookupSpec}
 use Rattle.omap.specs.Window.{nextOf, pieceOf, pieces}
-use Rattle.omap.specs.Output.{shown, fits, allFit, flat, roomFor, windowSpec, windowOut}
+use Rattle.omap.specs.Output.{besideStart, fits, allFit, sumFault, windowFault, flat, roomFor, windowSpec, windowOut}
 use Rattle.omap.specs.Expand.{total}
 use Rattle.omap.proofs.Cases as omap
 use Rattle.clash.specs.Clash.{Pair, Sources, one, two, pairedOr, leastTwo, clashSpec, backSpec}
-use Rattle.clash.specs.Meet.{sourceIn, sourcesIn, firstMet, clashOf}
-use Rattle.clash.proofs.Answers.{clash-computed, back-computed}
+use Rattle.clash.specs.Shared.{sourceIn, sourcesIn, firstShared, clashOf}
+use Rattle.clash.proofs.Answers.{clash-given, back-given}
 
 pub data Case : Type 0 where
   -- a case on translation or window
@@ -63,11 +63,11 @@ answers =
     ∷ [])
 
 pub cases : map answer asked ≡ answers
-unfolding leAt listed shapeFault risingAfter rising tableFault records orElse lastAt moved single lookupSpec nextOf pieceOf put pieces shown fits allFit flat roomFor windowSpec windowOut total pairedOr leastTwo sourceIn sourcesIn firstMet clashOf
+unfolding leAt listed shapeFault risingAfter rising tableFault records orElse lastAt moved single lookupSpec nextOf pieceOf put pieces besideStart fits allFit sumFault windowFault flat roomFor windowSpec windowOut total pairedOr leastTwo sourceIn sourcesIn firstShared clashOf
 cases =
     rw (
-      clash-computed omap.tableT 0x800 0x1400 (omega arith),
-      clash-computed omap.tableT 0x1000 0x1300 (omega arith),
-      back-computed omap.tableT 0x800 0x1400 (omega arith) 0x50A0,
-      back-computed omap.tableT 0x800 0x1400 (omega arith) 0x5100,
+      ← (clash-given omap.tableT 0x800 0x1400 refl refl (omega arith)),
+      ← (clash-given omap.tableT 0x1000 0x1300 refl refl (omega arith)),
+      ← (back-given omap.tableT 0x800 0x1400 refl refl (omega arith) 0x50A0),
+      ← (back-given omap.tableT 0x800 0x1400 refl refl (omega arith) 0x5100),
     )

@@ -8,7 +8,7 @@ use mathlib.Core.Option.{Option, none, some}
 use lib.Dec.{eqb}
 use Rattle.lent.specs.Paper.{Told, value, nothing, refused}
 use Rattle.lent.specs.declared.Refusal.the-variants.{Length, Count, Order}
-use Rattle.omap.proofs.Determined.{refusal, one-answer}
+use Rattle.lent.proofs.Answers.{refusal, one-answer}
 use Rattle.clash.specs.Clash.{Pair, Sources, one, two, toldClashed, clashSpec, toldBack, backSpec}
 use Rattle.clash.specs.declared.Clashed.{Clashed}
 use Rattle.clash.specs.declared.Clashed.the-variants as clashed

@@ -1,6 +1,6 @@
 pub mod Sent
 pub mod Runs
-pub mod Meetings
+pub mod Sharing
 pub mod Later
 pub mod Pairs
 pub mod Backs
@@ -8,6 +8,7 @@ pub mod Answers
 pub mod Addresses
 pub mod Smaller
 pub mod Told
+pub mod Answered
 pub mod Demand3
 pub mod Determined
 pub mod Cases

@@ -14,10 +14,11 @@ use Rattle.lent.specs.Words.{orElse, put}
 use Rattle.lent.specs.Order.{rising}
 use Rattle.lent.proofs.Logic.{lt-or-le}
 use Rattle.omap.specs.Records.{Entry, sources, single}
-use Rattle.omap.specs.Window.{Piece, pieces}
+use Rattle.omap.specs.Window.{pieces}
+use Rattle.omap.specs.declared.walk.Piece.{Piece}
 use Rattle.omap.specs.Expand.{range}
 use Rattle.clash.specs.Clash.{sourcesOf, Pair, pairedOr, firstClash}
-use Rattle.clash.specs.Meet.{sourceIn, sourcesIn, firstMet, fromPiece, clashOf}
+use Rattle.clash.specs.Shared.{sourceIn, sourcesIn, firstShared, fromPiece, clashOf}
 use Rattle.clash.proofs.Sent.{Sent, run, sentPieces, window-sent, sourcesAt, clashIn, sources-sent, clash-sent}
 
 -- a target is below a piece, past it, or of one address in it
@@ -85,14 +86,14 @@ from-target p x t (y ∷ ys) o c e = rw e
 
 -- from the k-th address of a piece on: no address of the piece shares its target with another of it
 clash-run : (p : Piece) (l : List Piece) (n k : ℕ)
-    → clashIn (run (p .at + k) (p .to + k) n ++ sentPieces l) ≡ orElse (fromPiece p (firstMet l (p .to + k) n)) (clashIn (sentPieces l))
-unfolding run clashIn firstMet orElse
+    → clashIn (run (p .at + k) (p .to + k) n ++ sentPieces l) ≡ orElse (fromPiece p (firstShared l (p .to + k) n)) (clashIn (sentPieces l))
+unfolding run clashIn firstShared orElse
 clash-run p l zero k = refl
 clash-run p l (suc n) k =
     let e : suc (p .at + k) ≡ p .at + suc k = omega arith in
     let f : suc (p .to + k) ≡ p .to + suc k = omega arith in
     rw (run-below (p .to + k) (sentPieces l) n (suc (p .at + k)) (suc (p .to + k)) (omega arith), sources-pieces (p .to + k) l, e, f, clash-run p l n (suc k))
-    (from-target p (p .at + k) (p .to + k) (sourcesIn (p .to + k) l) (firstMet l (p .to + suc k) n) (clashIn (sentPieces l)) (omega arith))
+    (from-target p (p .at + k) (p .to + k) (sourcesIn (p .to + k) l) (firstShared l (p .to + suc k) n) (clashIn (sentPieces l)) (omega arith))
 
 clash-pieces : (l : List Piece) → clashIn (sentPieces l) ≡ clashOf l
 unfolding clashIn sentPieces clashOf
@@ -100,8 +101,8 @@ clash-pieces [] = refl
 clash-pieces (p ∷ l) =
     let e : p .at + 0 ≡ p .at = omega arith in
     let f : p .to + 0 ≡ p .to = omega arith in
-    let g : clashIn (run (p .at + 0) (p .to + 0) (p .size) ++ sentPieces l) ≡ orElse (fromPiece p (firstMet l (p .to + 0) (p .size))) (clashIn (sentPieces l)) = clash-run p l (p .size) 0 in
-    (rw (e, f) at g) ∙ ap (orElse (fromPiece p (firstMet l (p .to) (p .size)))) (clash-pieces l)
+    let g : clashIn (run (p .at + 0) (p .to + 0) (p .size) ++ sentPieces l) ≡ orElse (fromPiece p (firstShared l (p .to + 0) (p .size))) (clashIn (sentPieces l)) = clash-run p l (p .size) 0 in
+    (rw (e, f) at g) ∙ ap (orElse (fromPiece p (firstShared l (p .to) (p .size)))) (clash-pieces l)
 
 module _ (a b : ℕ) (l : List Entry) (r : rising (sources l) ≡ true) (w : b ≤ 4294967296) where
   pub sources-by-pieces : (t : ℕ) → sourcesOf (single l) t (range a b) ≡ sourcesIn t (pieces a b l)

@@ -14,7 +14,8 @@ use Rattle.lent.specs.Order.{risingAfter, rising, lastAt}
 use Rattle.lent.proofs.Rising.{after-rising}
 use Rattle.lent.proofs.Logic.{lt-or-le}
 use Rattle.omap.specs.Records.{Entry, sources, holderOf, moved, single}
-use Rattle.omap.specs.Window.{Piece, nextOf, pieces}
+use Rattle.omap.specs.Window.{nextOf, pieces}
+use Rattle.omap.specs.declared.walk.Piece.{Piece}
 use Rattle.omap.specs.Expand.{upFrom, range}
 use Rattle.omap.proofs.Pieces.{piece-empty, piece-zero, piece-some}
 use Rattle.omap.proofs.Expansion.{range-split, single-rest, single-below, single-moved, after-same, no-piece}

@@ -7,19 +7,13 @@ use native.Mathlib.Omega.{arith}
 use mathlib.Core.Bool.{Bool, true, false, cond}
 use mathlib.Core.List.{List, [], _∷_}
 use mathlib.Core.Option.{Option, none, some}
-use Rattle.lent.specs.Paper.{value, nothing, refused, unless, fitted}
+use Rattle.lent.specs.Paper.{value, nothing, refused, fitted}
 use Rattle.lent.proofs.Logic.{lt-or-le}
 use lib.Dec.{leb}
 use Rattle.omap.specs.Expand.{range}
 use Rattle.clash.specs.Clash.{Pair, one, two, sourcesOf, leastTwo}
 use Rattle.clash.specs.Demand.{Source, Clash, LeastClash, OneSource, TwoSources}
 use Rattle.clash.proofs.Addresses.{no-source, a-source}
-
--- an answer given means that no refusal was
-pub given : (o : Option ℕ) (t : Bool) (v w : Option Pair) → unless o (cond t (value v) (refused 4)) ≡ value w → (o ≡ none) × ((t ≡ true) × (v ≡ w))
-given none true v w e = (refl, (refl, cc))
-given none false v w e = ((cc), ((cc), (cc)))
-given (some n) t v w e = ((cc), ((cc), (cc)))
 
 fitted-case : (c : Bool) (v t : ℕ) → cond c (value v) (refused 4) ≡ value t → v ≡ t
 fitted-case true v t e = cc

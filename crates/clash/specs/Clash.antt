@@ -1,14 +1,12 @@
 -- Addresses of a window that share a translation, and the sources of a target, address by address.
 use Prim.Native.Nat.{ℕ}
-use mathlib.Core.Bool.{Bool, false, cond}
+use mathlib.Core.Bool.{Bool, true, false, cond}
 use mathlib.Core.List.{List, [], _∷_}
 use mathlib.Core.Option.{Option, none, some}
 use lib.Dec.{eqb}
-use Rattle.lent.specs.Order.{omapFault}
 use Rattle.lent.specs.Paper.{Told, value, nothing, refused, unless, number}
 use Rattle.omap.specs.Records.{records, single}
-use Rattle.omap.specs.Window.{pieces}
-use Rattle.omap.specs.Output.{allFit}
+use Rattle.omap.specs.Output.{windowFault}
 use Rattle.omap.specs.Expand.{range}
 use Rattle.clash.specs.declared.Clashed.{Clashed}
 use Rattle.clash.specs.declared.Clashed.the-variants as clashed
@@ -44,10 +42,6 @@ unfoldable pub firstClash : (ℕ → Option ℕ) → List ℕ → Option Pair
 firstClash f [] = none
 firstClash f (x ∷ l) = pairedOr x (sharing f (f x) l) (firstClash f l)
 
--- the refusals 1, 2, 3 and 4 of a window, before any other answer
-abbrev pub inWindow : {A : Type 0} → List ℕ → ℕ → ℕ → Told A → Told A
-inWindow s a b t = unless (omapFault s) (cond (allFit (pieces a b (records s))) t (refused 4))
-
 -- the clash check's value: "single" is none
 abbrev pub toldClashed : Clashed → Told (Option Pair)
 toldClashed clashed.Single = value none
@@ -57,7 +51,7 @@ toldClashed clashed.TooLarge = refused 4
 
 -- 1, 2, 3, 4, "single", or the least pair of window addresses with equal translations
 unfoldable pub clashSpec : List ℕ → ℕ → ℕ → Told (Option Pair)
-clashSpec s a b = inWindow s a b (value (firstClash (single (records s)) (range a b)))
+clashSpec s a b = unless (windowFault true s a b) (value (firstClash (single (records s)) (range a b)))
 
 -- the one source, or the two least
 pub data Sources : Type 0 where
@@ -79,4 +73,4 @@ leastTwo (x ∷ (y ∷ l)) = value (two x y)
 
 -- 1, 2, 3, 4, none, the one source of t in the window, or the two least
 unfoldable pub backSpec : List ℕ → ℕ → ℕ → ℕ → Told Sources
-backSpec s a b t = inWindow s a b (leastTwo (sourcesOf (single (records s)) t (range a b)))
+backSpec s a b t = unless (windowFault true s a b) (leastTwo (sourcesOf (single (records s)) t (range a b)))

@@ -1,3 +1,3 @@
 pub mod Clash
-pub mod Meet
+pub mod Shared
 pub mod Demand

@@ -84,6 +84,17 @@ module _ (p : Piece) where
   unfolding fits besideStart
   fits-shown f = let h : p .to + p .size ≤ 4294967295 = leb-true (p .to + p .size) 4294967295 f in (omega arith, h)
 
+  -- what a piece that fits is taken to is below 2 ^ 32, and a piece that ends no later fits too
+  pub fits-target : fits p ≡ true → (t : ℕ) → t < p .to + p .size → t ≤ 4294967295
+  unfolding fits
+  fits-target f t h = let e : p .to + p .size ≤ 4294967295 = leb-true (p .to + p .size) 4294967295 f in omega arith
+
+  pub fits-less : fits p ≡ true → (q : Piece) → q .to + q .size ≤ p .to + p .size → fits q ≡ true
+  unfolding fits
+  fits-less f q h =
+      let e : p .to + p .size ≤ 4294967295 = leb-true (p .to + p .size) 4294967295 f in
+      le-leb (q .to + q .size) 4294967295 (omega arith)
+
   module _ (l : List Piece) where
     pub fit-more : fits p ≡ true → allFit (p ∷ l) ≡ allFit l
     unfolding allFit

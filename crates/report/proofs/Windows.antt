@@ -15,7 +15,8 @@ use Rattle.lent.specs.Le.{leAt}
 use borrow.Author.Tests.{lt-ltb, le-ltb, le-leb, lt-leb}
 use Rattle.lent.proofs.Place.{length-listed}
 use Rattle.omap.specs.Records.{Entry, entryAt, records}
-use Rattle.omap.specs.Window.{Piece, nextOf, pieceOf, pieces, windowPieces}
+use Rattle.omap.specs.Window.{nextOf, pieceOf, pieces, windowPieces}
+use Rattle.omap.specs.declared.walk.Piece.{Piece}
 use Rattle.omap.specs.Output.{shown, allFit, flat, Window, counted, refusedAs, refusedFor, roomFor, unlessFault, windowSpec, windowOut}
 use Rattle.omap.proofs.Outputs.{length-flat}
 use Rattle.report.specs.Text.{digits, lines, numbered, refusedText}

@@ -5,7 +5,8 @@ use mathlib.Core.List.{List, [], _∷_, _++_}
 use lib.ListN.{length, drop}
 use lib.Dec.{ltb, leb}
 use Rattle.lent.specs.Le.{leAt}
-use Rattle.omap.specs.Window.{Piece, windowPieces}
+use Rattle.omap.specs.Window.{windowPieces}
+use Rattle.omap.specs.declared.walk.Piece.{Piece}
 use Rattle.omap.specs.Output.{shown, Window, counted, refusedAs, refusedFor, windowSpec}
 use Rattle.report.specs.Text.{hex, numbered, lines, refusedText}
 

@@ -1,49 +1,70 @@
--- `clash::way_back` meets its contract: each answer by the check and the walk.
+-- `clash::way_back` meets its contract: each answer by the count and the walk.
 -- Assumes nothing.
-use mathlib.Core.Path.{_≡_, sym, ap, _∙_}
+use mathlib.Core.Path.{sym, ap, _∙_}
+use mathlib.Core.Bool.{true}
 use native.Mathlib.Omega.{arith}
-use mathlib.Core.Option.{none}
 use denote.Ref.{now}
-use Rattle.lent.specs.Order.{omapFault}
-use Rattle.lent.specs.Paper.{number, toldChecked}
-use Rattle.omap.proofs.Last.{in-order}
+use Rattle.lent.specs.Paper.{number}
+use Rattle.omap.specs.Output.{toldCounted}
+use Rattle.omap.proofs.Outputs.{Counts, was-counted, was-refused}
 use Rattle.clash.proofs.Answers.{back-refused, back-given}
 use borrow.Author.Needs.{needs}
 use Rattle.clash.proofs.way_back.Statement.{statement}
 use Rattle.clash.proofs.way_back.Tie as tie
-use Rattle.clash.proofs.way_back.Reads as reads
-use Rattle.clash.proofs.way_back.Lts as lts
-use Rattle.clash.proofs.sources.Reads as sources-reads
-use Rattle.lent.proofs.check.Reads as check-reads
 
-omap-check-requires : tie.Need-omap-check-requires
-omap-check-requires c κs = search needs
+-- where the window is not refused
+module _ (k : tie.After-enum-told2) where
+  abbrev start : tie.Start
+  start = k .before .before .before .before
 
-enum-known-checked : tie.Need-enum-known-checked
-enum-known-checked c = search needs
+  counts : Counts true (now (start .args .table)) (start .args .a) (start .args .b) (k .enum-told2 .given .0 .0)
+  counts =
+      was-counted true (now (start .args .table)) (start .args .a) (start .args .b) (k .enum-told2 .given .0 .0)
+      (sym (ap toldCounted (k .enum-told2 .given .1)) ∙ k .before .before .count .ensures)
 
-returns : tie.Need-returns
-returns c =
-    let a = c .before .before .before .before .before .args in
-    back-refused (now (a .table)) (a .a) (a .b) (number (c .before .checked .given .0 .0))
-    (sym (ap toldChecked (c .before .checked .given .1)) ∙ c .before .before .before .omap-check .ensures) (a .t)
+count-requires : tie.Need-count-requires
+count-requires c κs = search needs
+
+enum-known-counted : tie.Need-enum-known-counted
+enum-known-counted c = search needs
 
 enum-told : tie.Need-enum-told
 enum-told c = search needs
 
--- past the check the table gives no refusal
-good : (c : tie.After-enum-told) → none ≡ omapFault (now (c .before .before .before .before .args .table))
-good c = sym (ap toldChecked (c .enum-told .given .1)) ∙ c .before .before .omap-check .ensures
+enum-told-2 : tie.Need-enum-told-2
+enum-told-2 c = search needs
 
-sources-requires : tie.Need-sources-requires
-sources-requires c κs = in-order (now (c .before .before .before .before .args .table)) (sym (good c))
+walk-back-requires : tie.Need-walk-back-requires
+walk-back-requires c κs = counts c .order
+
+returns : tie.Need-returns
+returns c =
+    let a = c .before .before .before .before .before .args in
+    let why = number (c .before .counted .given .0 .0) in
+    back-refused (now (a .table)) (a .a) (a .b) why
+    (was-refused true (now (a .table)) (a .a) (a .b) why (sym (ap toldCounted (c .before .counted .given .1)) ∙ c .before .before .before .count .ensures)) (a .t)
 
 returns-2 : tie.Need-returns-2
 returns-2 c =
-    let a = c .before .before .before .before .before .args in
-    c .sources .ensures ∙ back-given (now (a .table)) (a .a) (a .b) (good (c .before)) (omega arith) (a .t)
+    let a = c .before .before .before .before .args in
+    back-refused (now (a .table)) (a .a) (a .b) 4
+    (was-refused true (now (a .table)) (a .a) (a .b) 4 (sym (ap toldCounted (c .enum-told .given .1)) ∙ c .before .before .count .ensures)) (a .t)
+
+returns-3 : tie.Need-returns-3
+returns-3 c =
+    let k = c .before in
+    let a = start k .args in
+    c .walk-back .ensures ∙ back-given (now (a .table)) (a .a) (a .b) (counts k .order) (counts k .faultless) (omega arith) (a .t)
 
 pub way-back-spec : {M : Type 1} → statement M
 way-back-spec =
     tie.close
-    (tie.spec omap-check-requires enum-known-checked returns enum-told sources-requires returns-2)
+    (tie.spec
+    count-requires
+    enum-known-counted
+    enum-told
+    enum-told-2
+    walk-back-requires
+    returns
+    returns-2
+    returns-3)
