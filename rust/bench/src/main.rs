@@ -194,8 +194,8 @@ fn conversion() {
     let map = AddressMap {
         original_sections: Some(&original),
         transformed_sections: Some(&transformed),
-        transformed_to_original: None,
-        original_to_transformed: Some(&moved),
+        to_original: None,
+        to_transformed: Some(&moved),
     };
     let asked = addresses(2_000, 0x1000);
     row(

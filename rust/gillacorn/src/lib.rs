@@ -28,23 +28,25 @@
 #![warn(missing_docs)]
 #![deny(unsafe_code)]
 
-mod address_map;
 mod addresses;
-mod clash;
-#[doc(hidden)]
-#[allow(missing_docs, unsafe_code)]
+mod clashes;
+#[allow(unsafe_code)]
 pub mod ffi;
-mod framedata;
-mod omap;
-mod pe;
+mod frames;
+mod headers;
+mod lookups;
 mod refusal;
+mod windows;
 
-pub use crate::address_map::{AddressMap, PdbInternalRvaRangeIter, RvaRangeIter};
-pub use crate::addresses::{PdbInternalRva, PdbInternalSectionOffset, Rva, SectionOffset};
-pub use crate::clash::Sources;
-pub use crate::framedata::{
+pub use crate::addresses::{
+    AddressMap, PdbInternalRva, PdbInternalRvaRangeIter, PdbInternalSectionOffset, Rva,
+    RvaRangeIter, SectionOffset,
+};
+pub use crate::clashes::Sources;
+pub use crate::frames::{
     FallibleIterator, FrameCursor, FrameData, FrameDataIter, FrameTable, FrameType, StringRef,
 };
-pub use crate::omap::{Cursor, OMAPRecord, OMAPTable, Piece, RangeIter, Step};
-pub use crate::pe::{ImageSectionHeader, SectionCharacteristics, SectionTable};
+pub use crate::headers::{ImageSectionHeader, SectionCharacteristics, SectionTable};
+pub use crate::lookups::{OMAPRecord, OMAPTable};
 pub use crate::refusal::{Refusal, Result};
+pub use crate::windows::{Cursor, Piece, RangeIter, Step};

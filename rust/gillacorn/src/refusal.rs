@@ -7,7 +7,7 @@ use std::fmt;
 /// ```
 /// use gillacorn::Refusal;
 ///
-/// let refusal = Refusal::Room { needed: 3 };
+/// let refusal = Refusal::Short { needed: 3 };
 /// assert_eq!(refusal.number(), 5);
 /// assert_eq!(refusal.to_string(), "the output is too small: 3 entries are needed");
 /// ```
@@ -16,18 +16,18 @@ pub enum Refusal {
     /// 1: a table's length is no multiple of its record.
     Length,
     /// 2: a table has more records than allowed.
-    Records,
+    Count,
     /// 3: the question needs order, and a source or code start is not greater than the one before.
     Order,
     /// 4: a sum or product exceeds 32 bits.
-    Sum,
+    TooLarge,
     /// 5: the result has more entries than the lent output holds.
-    Room {
+    Short {
         /// How many entries the result has.
         needed: usize,
     },
     /// 6: a cursor would translate a piece that begins before its record's source.
-    Before,
+    Early,
 }
 
 /// What a question gives, or its [`Refusal`].
@@ -38,11 +38,11 @@ impl Refusal {
     pub fn number(self) -> u32 {
         match self {
             Refusal::Length => 1,
-            Refusal::Records => 2,
+            Refusal::Count => 2,
             Refusal::Order => 3,
-            Refusal::Sum => 4,
-            Refusal::Room { .. } => 5,
-            Refusal::Before => 6,
+            Refusal::TooLarge => 4,
+            Refusal::Short { .. } => 5,
+            Refusal::Early => 6,
         }
     }
 }
@@ -51,13 +51,13 @@ impl fmt::Display for Refusal {
     fn fmt(&self, f: &mut fmt::Formatter<'_>) -> fmt::Result {
         f.write_str(match self {
             Refusal::Length => "the table's length is no multiple of its record",
-            Refusal::Records => "the table has more records than allowed",
+            Refusal::Count => "the table has more records than allowed",
             Refusal::Order => "the table is out of order",
-            Refusal::Sum => "a sum or product exceeds 32 bits",
-            Refusal::Room { needed } => {
+            Refusal::TooLarge => "a sum or product exceeds 32 bits",
+            Refusal::Short { needed } => {
                 return write!(f, "the output is too small: {needed} entries are needed")
             }
-            Refusal::Before => "a piece begins before the source of its record",
+            Refusal::Early => "a piece begins before the source of its record",
         })
     }
 }
@@ -71,11 +71,11 @@ pub(crate) fn answer<T>(code: u32, told: usize, value: T) -> Result<Option<T>> {
         0 => return Ok(Some(value)),
         255 => return Ok(None),
         1 => Refusal::Length,
-        2 => Refusal::Records,
+        2 => Refusal::Count,
         3 => Refusal::Order,
-        4 => Refusal::Sum,
-        5 => Refusal::Room { needed: told },
-        6 => Refusal::Before,
+        4 => Refusal::TooLarge,
+        5 => Refusal::Short { needed: told },
+        6 => Refusal::Early,
         _ => unreachable!("the face has no code {}", code),
     })
 }

@@ -3,8 +3,8 @@
 use std::ops::Range;
 
 use crate::ffi;
+use crate::lookups::OMAPTable;
 use crate::refusal::{answer, Result};
-use crate::OMAPTable;
 
 /// The addresses of a window that share a translation.
 #[derive(Clone, Copy, Debug, Eq, Hash, PartialEq)]

@@ -2,10 +2,10 @@
 
 use std::fmt;
 
+use crate::addresses::PdbInternalRva;
 pub use crate::ffi::FrameCursor;
 use crate::ffi::{self, Frame, Frames};
 use crate::refusal::{answer, value, Refusal, Result};
-use crate::PdbInternalRva;
 
 /// A compiler specific frame type.
 #[derive(Clone, Copy, Debug, Eq, Hash, Ord, PartialEq, PartialOrd)]

@@ -1,8 +1,7 @@
-//! Section headers.
+//! Section headers, their names and flags.
 
-use crate::ffi;
+use crate::ffi::{self, for_each_flag};
 use crate::refusal::{answer, Result};
-use crate::SectionOffset;
 
 /// Characteristic flags of an [`ImageSectionHeader`].
 ///
@@ -15,59 +14,18 @@ use crate::SectionOffset;
 #[derive(Clone, Copy, Debug, Default, Eq, Hash, PartialEq)]
 pub struct SectionCharacteristics(pub u32);
 
-macro_rules! flags {
-    ($($(#[$doc:meta])* $name:ident;)*) => {
+macro_rules! flag_methods {
+    ($($(#[$doc:meta])* $flag:ident)*) => {
         impl SectionCharacteristics {$(
             $(#[$doc])*
-            pub fn $name(self) -> bool {
-                ffi::characteristics(self.0).$name
+            pub fn $flag(self) -> bool {
+                ffi::characteristics(self.0).$flag
             }
         )*}
     };
 }
 
-flags! {
-    /// The section contains executable code (0x20; see [`execute`](Self::execute)).
-    executable;
-    /// The section contains initialized data.
-    initialized_data;
-    /// The section contains uninitialized data.
-    uninitialized_data;
-    /// Reserved.
-    other;
-    /// The section contains comments or other information.
-    info;
-    /// The section will not become part of the image.
-    remove;
-    /// The section contains COMDAT data.
-    comdat;
-    /// Reset speculative exceptions handling bits in the TLB entries for this section.
-    defer_speculative_exceptions;
-    /// The section contains data referenced through the global pointer.
-    global_pointer_relative;
-    /// Reserved.
-    purgeable;
-    /// Reserved.
-    locked;
-    /// Reserved.
-    preload;
-    /// The section contains extended relocations.
-    lnk_nreloc_ovfl;
-    /// The section can be discarded as needed.
-    discardable;
-    /// The section cannot be cached.
-    not_cached;
-    /// The section cannot be paged.
-    not_paged;
-    /// The section can be shared in memory.
-    shared;
-    /// The section can be executed as code (0x20000000).
-    execute;
-    /// The section can be read.
-    read;
-    /// The section can be written to.
-    write;
-}
+for_each_flag!(flag_methods);
 
 impl SectionCharacteristics {
     /// Alignment for section data. `Some(1)` means that the section should not be padded to a
@@ -79,7 +37,6 @@ impl SectionCharacteristics {
 }
 
 /// A PE `IMAGE_SECTION_HEADER`.
-#[repr(C)]
 #[derive(Clone, Copy, Debug, Default, Eq, Hash, PartialEq)]
 pub struct ImageSectionHeader {
     /// An 8-byte, null-padded UTF-8 string.
@@ -102,6 +59,23 @@ pub struct ImageSectionHeader {
     pub number_of_line_numbers: u16,
     /// The characteristics of the section.
     pub characteristics: SectionCharacteristics,
+}
+
+impl From<ffi::SectionHeader> for ImageSectionHeader {
+    fn from(header: ffi::SectionHeader) -> Self {
+        ImageSectionHeader {
+            name: header.name,
+            virtual_size: header.virtual_size,
+            virtual_address: header.virtual_address,
+            size_of_raw_data: header.size_of_raw_data,
+            pointer_to_raw_data: header.pointer_to_raw_data,
+            pointer_to_relocations: header.pointer_to_relocations,
+            pointer_to_line_numbers: header.pointer_to_line_numbers,
+            number_of_relocations: header.number_of_relocations,
+            number_of_line_numbers: header.number_of_line_numbers,
+            characteristics: SectionCharacteristics(header.characteristics),
+        }
+    }
 }
 
 impl ImageSectionHeader {
@@ -133,7 +107,7 @@ impl ImageSectionHeader {
 /// # Ok::<(), Refusal>(())
 /// ```
 #[derive(Clone, Copy, Debug, Default)]
-pub struct SectionTable<'t>(&'t [u8]);
+pub struct SectionTable<'t>(pub(crate) &'t [u8]);
 
 impl<'t> SectionTable<'t> {
     /// Bytes in a header.
@@ -147,7 +121,7 @@ impl<'t> SectionTable<'t> {
     /// The header at a place from 0, or none past the last. Refusals 1 and 2.
     pub fn header(self, place: usize) -> Result<Option<ImageSectionHeader>> {
         let given = ffi::header(self.0, place);
-        answer(given.code, 0, given.header)
+        answer(given.code, 0, given.header.into())
     }
 
     /// All headers, in order. Refusals 1 and 2.
@@ -166,20 +140,5 @@ impl<'t> SectionTable<'t> {
         let start = usize::from(number).saturating_sub(1) * Self::RECORD;
         let name = self.0.get(start..start + length).unwrap_or_default();
         std::str::from_utf8(name).unwrap_or_default()
-    }
-
-    /// The section, from 1, and the offset in it of an address: the first section that holds it,
-    /// sought up to the first header that begins later. Refusals 1 and 2.
-    pub fn section_offset(self, address: u32) -> Result<Option<SectionOffset>> {
-        let given = ffi::section_offset(self.0, address);
-        let offset = SectionOffset::new(given.section, given.offset);
-        answer(given.code, 0, offset)
-    }
-
-    /// The address of an offset in a section; none for section 0 and past the last. The offset is
-    /// not compared with the section's size. Refusals 1, 2 and 4.
-    pub fn virtual_address(self, section: u16, offset: u32) -> Result<Option<u32>> {
-        let given = ffi::virtual_address(self.0, section, offset);
-        answer(given.code, 0, given.value)
     }
 }

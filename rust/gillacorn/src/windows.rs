@@ -1,23 +1,13 @@
-//! OMAP tables: single translations, windows and cursors.
+//! Windows: all pieces at once, as a list, or one by one.
 
 use std::iter::FusedIterator;
 use std::ops::Range;
 
 use crate::ffi::{self, Lent};
 pub use crate::ffi::{Cursor, Piece};
+use crate::lookups::OMAPTable;
 use crate::refusal::{answer, value, Refusal, Result};
 
-/// A record of an [`OMAPTable`]: it owns the addresses from its source up to the next source.
-#[derive(Clone, Copy, Debug, Eq, Hash, PartialEq)]
-pub struct OMAPRecord {
-    /// The first address in the source space.
-    pub source_address: u32,
-    /// Its translation; 0 if these addresses have none.
-    pub target_address: u32,
-}
-
-/// An OMAP table, lent as bytes: 8 for each record, source and target.
-///
 /// ```
 /// use gillacorn::{OMAPTable, Refusal};
 ///
@@ -27,9 +17,6 @@ pub struct OMAPRecord {
 ///     .collect();
 /// let table = OMAPTable::new(&bytes);
 ///
-/// assert_eq!(table.lookup(0x1f)?, Some(0x10f));
-/// assert_eq!(table.lookup(0xf)?, None);
-///
 /// // The pieces of a window, one by one or all at once. Neighbours are never joined.
 /// let pieces: Result<Vec<_>, _> = table.lookup_range(0x10..0x30)?.collect();
 /// assert_eq!(pieces?, [0x100..0x110, 0x110..0x120]);
@@ -38,33 +25,10 @@ pub struct OMAPRecord {
 /// assert_eq!(out, [0x100, 0x110, 0x110, 0x120]);
 ///
 /// // No room: nothing is written, and the number of pieces is told.
-/// assert_eq!(table.window(0x10..0x30, &mut out[..3]), Err(Refusal::Room { needed: 2 }));
+/// assert_eq!(table.window(0x10..0x30, &mut out[..3]), Err(Refusal::Short { needed: 2 }));
 /// # Ok::<(), Refusal>(())
 /// ```
-#[derive(Clone, Copy, Debug, Default)]
-pub struct OMAPTable<'t>(pub(crate) &'t [u8]);
-
 impl<'t> OMAPTable<'t> {
-    /// A table over the given bytes. Each question checks them.
-    pub fn new(bytes: &'t [u8]) -> Self {
-        OMAPTable(bytes)
-    }
-
-    /// The record at a place from 0, or none past the last. Refusals 1 and 2.
-    pub fn record(self, place: usize) -> Result<Option<OMAPRecord>> {
-        let given = ffi::record_at(self.0, place);
-        let record = OMAPRecord {
-            source_address: given.source,
-            target_address: given.target,
-        };
-        answer(given.code, 0, record)
-    }
-
-    /// The translation of an address, or none in a hole. Refusals 1, 2, 3 and 4.
-    pub fn lookup(self, source_address: u32) -> Result<Option<u32>> {
-        lookup(Some(self.0), source_address)
-    }
-
     /// The pieces of a window, one by one. Refusals 1, 2 and 3 here, 4 with the piece.
     pub fn lookup_range(self, range: Range<u32>) -> Result<RangeIter<'t>> {
         RangeIter::start(Some(self.0), range)
@@ -103,13 +67,8 @@ pub enum Step {
     Done(Cursor),
 }
 
-pub(crate) fn lookup(table: Option<&[u8]>, address: u32) -> Result<Option<u32>> {
-    let given = ffi::lookup(table.into(), address);
-    answer(given.code, 0, given.value)
-}
-
 pub(crate) fn window(table: Option<&[u8]>, range: Range<u32>, out: &mut [u32]) -> Result<usize> {
-    let given = ffi::lookup_range(table.into(), range.start, range.end, out);
+    let given = ffi::window(table.into(), range.start, range.end, out);
     value(given.code, given.pieces, given.pieces)
 }
 
