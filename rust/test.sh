@@ -14,6 +14,10 @@ if [ -n "${GILLACORN_EMULATOR:-}" ]; then
 fi
 cargo_here "${tests[@]}"
 
+# Without an allocator, and without std.
+cargo_here check -p gillacorn --no-default-features
+cargo_here check -p gillacorn --no-default-features --features alloc
+
 work=$(mktemp -d)
 trap 'rm -rf "$work"' EXIT
 
@@ -21,6 +25,29 @@ same() { # what it is, its output, and what is expected on standard input
     diff "$2" - || { echo "$1: other than expected" >&2; exit 1; }
     echo "$1: $(wc -l <"$2") lines as they should be"
 }
+
+# What a build says that can't link: one sentence of build.rs, and no word of a linker.
+refused_build() { # what it is, words of the sentence, then words for cargo
+    if cargo_here check -p gillacorn "${@:3}" 2>"$work/build"; then
+        echo "$1: built all the same" >&2
+        exit 1
+    fi
+    grep -q "^ *gillacorn: .*$2" "$work/build" && ! grep -q "linking with" "$work/build" || {
+        cat "$work/build" >&2
+        echo "$1: not told" >&2
+        exit 1
+    }
+    echo "$1: told"
+}
+(
+    export GILLACORN_LIB=$work
+    refused_build "build without an archive" "there is no archive $work/libgillacorn.a"
+)
+(
+    unset GILLACORN_LIB
+    refused_build "build for another machine" "this build is for aarch64" \
+        --target aarch64-unknown-linux-gnu
+)
 
 cargo_here build --release -p gillacorn --example faultdesk
 # Document 01's table T: 1000 to 5000, 1100 to nothing, 1200 to 4000, 1300 to 5080.

@@ -3,6 +3,7 @@
 mod addresses;
 mod case;
 mod clashes;
+mod formats;
 mod frames;
 mod gen;
 mod headers;
@@ -30,7 +31,7 @@ differential [--seed N] [--inputs N | --inputs GROUP=N | --gate | --full] [--onl
     --inputs    at least this many questions to each group, or to one (20000)
     --gate      the size of the gate: 60,000 to each group
     --full      the full size: 10,000,000 questions or more in all
-    --only      some groups: headers omap (lookups, windows, cursors) lists clashes addresses frames
+    --only      some groups: headers omap (lookups, windows, cursors) lists clashes addresses frames formats
     --replay    write a sample of the answers to a file, once all of them agree";
 
 /// A group: its name, how many questions the full size asks, and what asks them.
@@ -43,6 +44,7 @@ const GROUPS: &[Group] = &[
     ("clashes", 700_000, clashes::run),
     ("addresses", 2_500_000, addresses::run),
     ("frames", 1_500_000, frames::run),
+    ("formats", 5_000, formats::run),
 ];
 
 struct Words {

@@ -55,6 +55,7 @@ operations! {
     FrameNext = 17, "frame iteration";
     FramesAt = 18, "frames from an address";
     FramesEmpty = 19, "is_empty";
+    Formats = 35, "Debug, Display, order (the wrapper's)";
 }
 
 /// Who says what is right.

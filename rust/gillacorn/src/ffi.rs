@@ -4,7 +4,9 @@
 
 mod answers;
 mod functions;
+mod names;
 
 pub(crate) use self::answers::for_each_flag;
 pub use self::answers::*;
 pub use self::functions::*;
+pub use self::names::*;

@@ -1,6 +1,12 @@
 //! Section headers, their names and flags.
 
+use core::fmt;
+
+#[cfg(feature = "alloc")]
+use alloc::vec::Vec;
+
 use crate::ffi::{self, for_each_flag};
+use crate::hex::hex;
 use crate::refusal::{answer, Result};
 
 /// Characteristic flags of an [`ImageSectionHeader`].
@@ -11,13 +17,19 @@ use crate::refusal::{answer, Result};
 /// assert_eq!(code.alignment(), Some(16));
 /// ```
 #[repr(transparent)]
-#[derive(Clone, Copy, Debug, Default, Eq, Hash, PartialEq)]
-pub struct SectionCharacteristics(pub u32);
+#[derive(Clone, Copy, Default, Eq, Hash, PartialEq)]
+pub struct SectionCharacteristics(
+    /// The flags as a table holds them.
+    pub u32,
+);
+
+hex!(SectionCharacteristics);
 
 macro_rules! flag_methods {
     ($($(#[$doc:meta])* $flag:ident)*) => {
         impl SectionCharacteristics {$(
             $(#[$doc])*
+            #[inline]
             pub fn $flag(self) -> bool {
                 ffi::characteristics(self.0).$flag
             }
@@ -30,14 +42,37 @@ for_each_flag!(flag_methods);
 impl SectionCharacteristics {
     /// Alignment for section data. `Some(1)` means that the section should not be padded to a
     /// boundary.
+    #[inline]
     pub fn alignment(self) -> Option<u16> {
         let given = ffi::alignment(self.0);
         (given.code == 0).then_some(given.value as u16)
     }
 }
 
+impl fmt::Debug for SectionCharacteristics {
+    /// As pdb has it: `{:#?}` tells the flags, `{:?}` the number.
+    fn fmt(&self, f: &mut fmt::Formatter<'_>) -> fmt::Result {
+        if !f.alternate() {
+            return f
+                .debug_tuple("ImageCharacteristics")
+                .field(&format_args!("{:#x}", self.0))
+                .finish();
+        }
+        let flags = ffi::characteristics(self.0);
+        let mut shown = f.debug_struct("ImageCharacteristics");
+        macro_rules! show {
+            ($($flag:ident)*) => { $(shown.field(stringify!($flag), &flags.$flag);)* };
+        }
+        show!(executable initialized_data uninitialized_data info remove comdat);
+        show!(defer_speculative_exceptions global_pointer_relative purgeable locked preload);
+        shown.field("alignment", &self.alignment());
+        show!(lnk_nreloc_ovfl discardable not_cached not_paged shared execute read write);
+        shown.finish()
+    }
+}
+
 /// A PE `IMAGE_SECTION_HEADER`.
-#[derive(Clone, Copy, Debug, Default, Eq, Hash, PartialEq)]
+#[derive(Clone, Copy, Default, Eq, Hash, PartialEq)]
 pub struct ImageSectionHeader {
     /// An 8-byte, null-padded UTF-8 string.
     pub name: [u8; 8],
@@ -62,6 +97,7 @@ pub struct ImageSectionHeader {
 }
 
 impl From<ffi::SectionHeader> for ImageSectionHeader {
+    #[inline]
     fn from(header: ffi::SectionHeader) -> Self {
         ImageSectionHeader {
             name: header.name,
@@ -80,12 +116,28 @@ impl From<ffi::SectionHeader> for ImageSectionHeader {
 
 impl ImageSectionHeader {
     /// Returns the name of the section; empty where it is not UTF-8.
+    #[inline]
     pub fn name(&self) -> &str {
-        // The face takes a whole table; of a header it reads the name alone.
-        let mut table = [0; SectionTable::RECORD];
-        table[..8].copy_from_slice(&self.name);
-        let length = ffi::name_length(&table, 1);
-        std::str::from_utf8(&self.name[..length]).unwrap_or_default()
+        ffi::name_alone(&self.name)
+    }
+}
+
+impl fmt::Debug for ImageSectionHeader {
+    /// As pdb has it: the name as text, places in hexadecimal, sizes of files in decimal.
+    fn fmt(&self, f: &mut fmt::Formatter<'_>) -> fmt::Result {
+        let mut shown = f.debug_struct("ImageSectionHeader");
+        shown.field("name()", &self.name());
+        macro_rules! show {
+            (hex $($field:ident)*) => {
+                $(shown.field(stringify!($field), &format_args!("{:#x}", self.$field));)*
+            };
+            ($($field:ident)*) => { $(shown.field(stringify!($field), &self.$field);)* };
+        }
+        show!(hex virtual_size virtual_address);
+        show!(size_of_raw_data);
+        show!(hex pointer_to_raw_data pointer_to_relocations pointer_to_line_numbers);
+        show!(number_of_relocations number_of_line_numbers characteristics);
+        shown.finish()
     }
 }
 
@@ -114,17 +166,20 @@ impl<'t> SectionTable<'t> {
     pub const RECORD: usize = 40;
 
     /// A table over the given bytes. Each question checks them.
+    #[inline]
     pub fn new(bytes: &'t [u8]) -> Self {
         SectionTable(bytes)
     }
 
     /// The header at a place from 0, or none past the last. Refusals 1 and 2.
+    #[inline]
     pub fn header(self, place: usize) -> Result<Option<ImageSectionHeader>> {
         let given = ffi::header(self.0, place);
         answer(given.code, 0, given.header.into())
     }
 
     /// All headers, in order. Refusals 1 and 2.
+    #[cfg(feature = "alloc")]
     pub fn headers(self) -> Result<Vec<ImageSectionHeader>> {
         let mut headers = Vec::new();
         while let Some(header) = self.header(headers.len())? {
@@ -135,10 +190,8 @@ impl<'t> SectionTable<'t> {
 
     /// The name of the section with a number from 1: a part of the table's own bytes. Empty for a
     /// missing section, a name that is not UTF-8 and a table that would be refused.
+    #[inline]
     pub fn name(self, number: u16) -> &'t str {
-        let length = ffi::name_length(self.0, number);
-        let start = usize::from(number).saturating_sub(1) * Self::RECORD;
-        let name = self.0.get(start..start + length).unwrap_or_default();
-        std::str::from_utf8(name).unwrap_or_default()
+        ffi::name(self.0, number)
     }
 }

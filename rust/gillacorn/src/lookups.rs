@@ -1,15 +1,27 @@
 //! OMAP tables: their records, and the translation of one address.
 
+use core::fmt;
+
 use crate::ffi;
 use crate::refusal::{answer, Result};
 
 /// A record of an [`OMAPTable`]: it owns the addresses from its source up to the next source.
-#[derive(Clone, Copy, Debug, Eq, Hash, PartialEq)]
+#[derive(Clone, Copy, Eq, Hash, PartialEq)]
 pub struct OMAPRecord {
     /// The first address in the source space.
     pub source_address: u32,
     /// Its translation; 0 if these addresses have none.
     pub target_address: u32,
+}
+
+impl fmt::Debug for OMAPRecord {
+    fn fmt(&self, f: &mut fmt::Formatter<'_>) -> fmt::Result {
+        let (source, target) = (self.source_address, self.target_address);
+        f.debug_struct("OMAPRecord")
+            .field("source_address", &format_args!("{source:#010x}"))
+            .field("target_address", &format_args!("{target:#010x}"))
+            .finish()
+    }
 }
 
 /// An OMAP table, lent as bytes: 8 for each record, source and target.
@@ -32,11 +44,13 @@ pub struct OMAPTable<'t>(pub(crate) &'t [u8]);
 
 impl<'t> OMAPTable<'t> {
     /// A table over the given bytes. Each question checks them.
+    #[inline]
     pub fn new(bytes: &'t [u8]) -> Self {
         OMAPTable(bytes)
     }
 
     /// The record at a place from 0, or none past the last. Refusals 1 and 2.
+    #[inline]
     pub fn record(self, place: usize) -> Result<Option<OMAPRecord>> {
         let given = ffi::record_at(self.0, place);
         let record = OMAPRecord {
@@ -47,6 +61,7 @@ impl<'t> OMAPTable<'t> {
     }
 
     /// The translation of an address, or none in a hole. Refusals 1, 2, 3 and 4.
+    #[inline]
     pub fn lookup(self, source_address: u32) -> Result<Option<u32>> {
         let given = ffi::lookup(Some(self.0).into(), source_address);
         answer(given.code, 0, given.value)

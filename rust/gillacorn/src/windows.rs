@@ -1,12 +1,13 @@
 //! Windows: all pieces at once, as a list, or one by one.
 
-use std::iter::FusedIterator;
-use std::ops::Range;
+use core::iter::FusedIterator;
+use core::ops::Range;
 
 use crate::ffi::{self, Lent};
 pub use crate::ffi::{Cursor, Piece};
 use crate::lookups::OMAPTable;
-use crate::refusal::{answer, value, Refusal, Result};
+use crate::refusal::{answer, value, Result};
+use crate::walk::Walk;
 
 /// ```
 /// use gillacorn::{OMAPTable, Refusal};
@@ -18,7 +19,7 @@ use crate::refusal::{answer, value, Refusal, Result};
 /// let table = OMAPTable::new(&bytes);
 ///
 /// // The pieces of a window, one by one or all at once. Neighbours are never joined.
-/// let pieces: Result<Vec<_>, _> = table.lookup_range(0x10..0x30)?.collect();
+/// let pieces: Result<Vec<_>, _> = table.lookup_range(0x10..0x30).collect();
 /// assert_eq!(pieces?, [0x100..0x110, 0x110..0x120]);
 /// let mut out = [0; 4];
 /// assert_eq!(table.window(0x10..0x30, &mut out)?, 2);
@@ -29,30 +30,36 @@ use crate::refusal::{answer, value, Refusal, Result};
 /// # Ok::<(), Refusal>(())
 /// ```
 impl<'t> OMAPTable<'t> {
-    /// The pieces of a window, one by one. Refusals 1, 2 and 3 here, 4 with the piece.
-    pub fn lookup_range(self, range: Range<u32>) -> Result<RangeIter<'t>> {
+    /// The pieces of a window, one by one. Refusals 1, 2 and 3 are the first item, 4 comes in the
+    /// place of its piece; either is the last item.
+    #[inline]
+    pub fn lookup_range(self, range: Range<u32>) -> RangeIter<'t> {
         RangeIter::start(Some(self.0), range)
     }
 
     /// The pieces of a window, written to `out` as pairs of start and excluded end; gives their
     /// number. Refusals 1, 2, 3, 4 and 5, with nothing written. An odd last place of `out` holds
     /// no piece, and places past the pieces stay as they are.
+    #[inline]
     pub fn window(self, range: Range<u32>, out: &mut [u32]) -> Result<usize> {
         window(Some(self.0), range, out)
     }
 
     /// As [`window`](Self::window), into a list of pieces.
+    #[inline]
     pub fn list(self, range: Range<u32>, list: &mut [Piece]) -> Result<usize> {
         let given = ffi::list(Some(self.0).into(), range.start, range.end, list);
         value(given.code, given.pieces, given.pieces)
     }
 
     /// A cursor by value over the pieces of a window. Refusals 1, 2 and 3.
+    #[inline]
     pub fn cursor(self, range: Range<u32>) -> Result<Cursor> {
         start(Some(self.0), range)
     }
 
     /// Steps any cursor on this table, in order or not. Refusals 1, 2, 6 and 4.
+    #[inline]
     pub fn step(self, cursor: Cursor) -> Result<Step> {
         step(Some(self.0), cursor)
     }
@@ -67,16 +74,19 @@ pub enum Step {
     Done(Cursor),
 }
 
+#[inline]
 pub(crate) fn window(table: Option<&[u8]>, range: Range<u32>, out: &mut [u32]) -> Result<usize> {
     let given = ffi::window(table.into(), range.start, range.end, out);
     value(given.code, given.pieces, given.pieces)
 }
 
+#[inline]
 fn start(table: Option<&[u8]>, range: Range<u32>) -> Result<Cursor> {
     let given = ffi::cursor_start(table.into(), range.start, range.end);
     value(given.code, 0, given.cursor)
 }
 
+#[inline]
 fn step(table: Option<&[u8]>, cursor: Cursor) -> Result<Step> {
     let given = ffi::cursor_step(cursor, Lent::from(table));
     Ok(match answer(given.code, 0, given.start..given.end)? {
@@ -85,62 +95,56 @@ fn step(table: Option<&[u8]>, cursor: Cursor) -> Result<Step> {
     })
 }
 
-/// The pieces of a window, one by one, over a table that it keeps hold of. After a refusal it has
-/// no more to give.
+/// The pieces of a window, one by one, over a table that it keeps hold of. A refusal is its last
+/// item, also that of its start.
 #[derive(Clone, Debug, Default)]
+#[must_use = "a refusal is told as an item"]
 pub struct RangeIter<'t> {
     table: Option<&'t [u8]>,
-    cursor: Cursor,
-    refused: bool,
+    walk: Walk<Cursor>,
 }
 
 impl<'t> RangeIter<'t> {
     /// Creates a `RangeIter` that does not yield any ranges.
+    #[inline]
     pub fn empty() -> Self {
         Self::default()
     }
 
     /// Creates a `RangeIter` that only yields the specified range; as in pdb, nothing where the
     /// range begins at 0.
-    pub fn identity(range: Range<u32>) -> Result<Self> {
+    #[inline]
+    pub fn identity(range: Range<u32>) -> Self {
         Self::start(None, range)
     }
 
-    pub(crate) fn start(table: Option<&'t [u8]>, range: Range<u32>) -> Result<Self> {
-        Ok(RangeIter {
+    #[inline]
+    pub(crate) fn start(table: Option<&'t [u8]>, range: Range<u32>) -> Self {
+        RangeIter {
             table,
-            cursor: start(table, range)?,
-            refused: false,
-        })
+            walk: Walk::new(start(table, range)),
+        }
     }
 
-    /// Where the iterator stands.
-    pub fn cursor(&self) -> Cursor {
-        self.cursor
+    /// Where the iterator stands, or what it was refused with.
+    #[inline]
+    pub fn cursor(&self) -> Result<Cursor> {
+        self.walk.place()
     }
 }
 
 impl Iterator for RangeIter<'_> {
     type Item = Result<Range<u32>>;
 
+    #[inline]
     fn next(&mut self) -> Option<Self::Item> {
-        if self.refused {
-            return None;
-        }
-        match step(self.table, self.cursor) {
-            Ok(Step::Piece(piece, cursor)) => {
-                self.cursor = cursor;
-                Some(Ok(piece))
-            }
-            Ok(Step::Done(cursor)) => {
-                self.cursor = cursor;
-                None
-            }
-            Err(refusal) => {
-                self.refused = true;
-                Some(Err::<_, Refusal>(refusal))
-            }
-        }
+        let table = self.table;
+        self.walk.next(|cursor| {
+            Ok(match step(table, cursor)? {
+                Step::Piece(piece, after) => (Some(piece), after),
+                Step::Done(after) => (None, after),
+            })
+        })
     }
 }
 

@@ -54,12 +54,9 @@ pub fn ranges(
     });
 }
 
-fn pairs<I, R>(
-    ranges: Result<I, Refusal>,
-    pair: fn(R) -> (u32, u32),
-) -> Result<Vec<(u32, u32)>, Refusal>
+fn pairs<I, R>(ranges: I, pair: fn(R) -> (u32, u32)) -> Result<Vec<(u32, u32)>, Refusal>
 where
     I: Iterator<Item = Result<R, Refusal>>,
 {
-    ranges?.map(|range| range.map(pair)).collect()
+    ranges.map(|range| range.map(pair)).collect()
 }

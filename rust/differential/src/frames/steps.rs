@@ -1,7 +1,7 @@
 //! The merged iteration over frames, step by step, and starting it at an address.
 
 use gillacorn::ffi::{self, Frame};
-use gillacorn::{FallibleIterator, FrameCursor, PdbInternalRva};
+use gillacorn::{FrameCursor, PdbInternalRva};
 
 use super::judged::{frame_of, wrapped_frame, JudgedFrames};
 use crate::case::Put;
@@ -108,11 +108,16 @@ impl JudgedFrames<'_> {
         };
         let mut iter = self.table.iter_at(cursor);
         let wrapped = match iter.next() {
-            Ok(Some(frame)) => (0, wrapped_frame(frame)),
-            Ok(None) => (255, Frame::default()),
-            Err(refusal) => (refusal.number(), Frame::default()),
+            Some(Ok(frame)) => (0, wrapped_frame(frame)),
+            None => (255, Frame::default()),
+            Some(Err(refusal)) => (refusal.number(), Frame::default()),
         };
-        let same = wrapped == (raw.code, raw.frame) && iter.cursor() == raw.cursor;
+        // A refusal is told once, by the item and by the place, and ends the walk.
+        let stands = match iter.cursor() {
+            Ok(cursor) => cursor == raw.cursor,
+            Err(refusal) => refusal.number() == raw.code && iter.next().is_none(),
+        };
+        let same = wrapped == (raw.code, raw.frame) && stands;
         ours.code = code_if(same, raw.code);
         tally.judge(Op::FrameNext, rule, rust, ours, |case| {
             self.input(case);
@@ -147,11 +152,14 @@ impl JudgedFrames<'_> {
             _ => {}
         }
         let raw = ffi::frames_at(address, &self.raw);
-        let wrapped = self.table.iter_at_rva(PdbInternalRva(address));
-        let ours = both(
-            given(raw.code, raw.cursor),
-            wrapped.map(|iter| Some(iter.cursor())),
-        );
+        let mut iter = self.table.iter_at_rva(PdbInternalRva(address));
+        let wrapped = iter.cursor().map(Some);
+        let mut ours = both(given(raw.code, raw.cursor), wrapped);
+        if let Err(refusal) = wrapped {
+            // A refused start is the first item, and the last.
+            let told = iter.next() == Some(Err(refusal)) && iter.next().is_none();
+            ours = ours.map_err(|number| code_if(told, number));
+        }
         tally.judge(Op::FramesAt, rule, rust, ours, |case| {
             self.input(case);
             case.number("address", address);

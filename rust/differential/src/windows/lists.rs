@@ -107,17 +107,20 @@ fn iterate(tally: &mut Tally, asked: &JudgedTable<'_>, a: u32, b: u32) {
         }
     });
     let mut ours = Pieces::default();
-    let started = match asked.table {
+    let mut ranges = match asked.table {
         Some(table) => OMAPTable::new(table).lookup_range(a..b),
         None => RangeIter::identity(a..b),
     };
-    match started {
-        Err(refusal) => ours.refused = refusal.number(),
-        Ok(ranges) => ranges.for_each(|range| match range {
+    for range in &mut ranges {
+        match range {
             Ok(range) => ours.pieces.push((range.start, range.end)),
             Err(refusal) => ours.refused = refusal.number(),
-        }),
+        }
     }
+    // After a refusal, as after the end, there is nothing; and the place tells the refusal.
+    let refused = ranges.cursor().err().map_or(0, Refusal::number);
+    let over = ranges.next().is_none() && refused == ours.refused;
+    ours.refused = code_if(over, ours.refused);
     tally.judge(Op::RangeIter, rule, rust, ours, |case| {
         case.lent("table", asked.lent).number("a", a).number("b", b);
     });

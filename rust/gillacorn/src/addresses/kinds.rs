@@ -1,42 +1,57 @@
-//! The four kinds of address. Each is a type of its own, so that one can't be passed for another.
+//! The four kinds of address. Each is a type of its own, so that one can't be passed for another;
+//! `AddressMap` tells what they are and how one becomes another.
 
-use std::fmt;
-use std::ops::{Add, AddAssign, Sub};
+use core::cmp::Ordering;
+use core::fmt;
+use core::ops::{Add, AddAssign, Sub};
+
+use crate::hex::hex_number;
 
 macro_rules! virtual_address {
     ($(#[$doc:meta])* $type:ident) => {
         $(#[$doc])*
-        #[derive(Clone, Copy, Debug, Default, Eq, Hash, Ord, PartialEq, PartialOrd)]
-        pub struct $type(pub u32);
+        #[derive(Clone, Copy, Default, Eq, Hash, Ord, PartialEq, PartialOrd)]
+        pub struct $type(
+            /// The address, relative to the image base.
+            pub u32,
+        );
+
+        hex_number!($type);
 
         impl $type {
             /// Checked addition of an offset. Returns `None` if overflow occurred.
+            #[inline]
             pub fn checked_add(self, offset: u32) -> Option<Self> {
                 self.0.checked_add(offset).map(Self)
             }
 
             /// Checked computation of an offset between two addresses. Returns `None` if `other` is
             /// larger.
+            #[inline]
             pub fn checked_sub(self, other: Self) -> Option<u32> {
                 self.0.checked_sub(other.0)
             }
 
             /// Saturating addition of an offset, clipped at the numeric bounds.
+            #[inline]
             pub fn saturating_add(self, offset: u32) -> Self {
                 Self(self.0.saturating_add(offset))
             }
 
             /// Saturating computation of an offset between two addresses, clipped at zero.
+            #[inline]
             pub fn saturating_sub(self, other: Self) -> u32 {
                 self.0.saturating_sub(other.0)
             }
 
             /// Wrapping (modular) addition of an offset.
+            #[inline]
             pub fn wrapping_add(self, offset: u32) -> Self {
                 Self(self.0.wrapping_add(offset))
             }
 
             /// Wrapping (modular) computation of an offset between two addresses.
+            #[inline]
             pub fn wrapping_sub(self, other: Self) -> u32 {
                 self.0.wrapping_sub(other.0)
             }
@@ -48,24 +63,6 @@ macro_rules! virtual_address {
             /// The offset between two addresses. Panics in every build if `other` is larger.
             fn sub(self, other: Self) -> u32 {
                 self.checked_sub(other).expect("an offset below zero")
-            }
-        }
-
-        impl From<u32> for $type {
-            fn from(address: u32) -> Self {
-                Self(address)
-            }
-        }
-
-        impl From<$type> for u32 {
-            fn from(address: $type) -> Self {
-                address.0
-            }
-        }
-
-        impl fmt::Display for $type {
-            fn fmt(&self, f: &mut fmt::Formatter<'_>) -> fmt::Result {
-                write!(f, "{:#x}", self.0)
             }
         }
     };
@@ -84,7 +81,7 @@ virtual_address! {
 macro_rules! section_offset {
     ($(#[$doc:meta])* $type:ident) => {
         $(#[$doc])*
-        #[derive(Clone, Copy, Debug, Default, Eq, Hash, PartialEq)]
+        #[derive(Clone, Copy, Default, Eq, Hash, PartialEq)]
         pub struct $type {
             /// The offset from the start of the section.
             pub offset: u32,
@@ -94,29 +91,51 @@ macro_rules! section_offset {
 
         impl $type {
             /// Creates a new section offset.
+            #[inline]
             pub fn new(section: u16, offset: u32) -> Self {
                 Self { offset, section }
             }
 
             /// Returns whether this section offset points to a valid section or into the void.
+            #[inline]
             pub fn is_valid(self) -> bool {
                 self.section != 0
             }
 
             /// Checked addition of an offset. Returns `None` if overflow occurred.
+            #[inline]
             pub fn checked_add(self, offset: u32) -> Option<Self> {
                 let offset = self.offset.checked_add(offset)?;
                 Some(Self { offset, ..self })
             }
 
             /// Saturating addition of an offset, clipped at the numeric bounds.
+            #[inline]
             pub fn saturating_add(self, offset: u32) -> Self {
                 Self::new(self.section, self.offset.saturating_add(offset))
             }
 
             /// Wrapping (modular) addition of an offset.
+            #[inline]
             pub fn wrapping_add(self, offset: u32) -> Self {
                 Self::new(self.section, self.offset.wrapping_add(offset))
+            }
+        }
+
+        impl PartialOrd for $type {
+            /// Compares offsets in one section; those of two have no order.
+            #[inline]
+            fn partial_cmp(&self, other: &Self) -> Option<Ordering> {
+                (self.section == other.section).then(|| self.offset.cmp(&other.offset))
+            }
+        }
+
+        impl fmt::Debug for $type {
+            fn fmt(&self, f: &mut fmt::Formatter<'_>) -> fmt::Result {
+                f.debug_struct(stringify!($type))
+                    .field("section", &format_args!("{:#x}", self.section))
+                    .field("offset", &format_args!("{:#x}", self.offset))
+                    .finish()
             }
         }
     };
