@@ -21,17 +21,23 @@ fail() {
     exit 1
 }
 
-# Exit status, standard output and standard error that are expected, then words for the program.
-# Standard error is a pattern. The variable `from` names a file for standard input.
-is() {
-    local status=0 out err
-    run gillacorn "${@:4}" <"${from:-/dev/null}" >out 2>err || status=$?
+# Holds what the last question gave, in $status and the files out and err, to what is expected.
+gave() { # what was asked, exit status, standard output, a pattern for standard error
+    local out err
     out=$(cat out) err=$(cat err)
-    [ "$status" -eq "$1" ] || fail "${*:4}: exit status $status and not $1: $err"
-    [ "$out" = "$2" ] || fail "${*:4}: on standard output: $out"
+    [ "$status" -eq "$2" ] || fail "$1: exit status $status and not $2: $err"
+    [ "$out" = "$3" ] || fail "$1: on standard output: $out"
     # shellcheck disable=SC2053
-    [[ $err == $3 ]] || fail "${*:4}: on standard error: $err"
+    [[ $err == $4 ]] || fail "$1: on standard error: $err"
     asked=$((asked + 1))
+}
+
+# Exit status, standard output and standard error that are expected, then words for the program.
+# The variable `from` names a file for standard input.
+is() {
+    status=0
+    run gillacorn "${@:4}" <"${from:-/dev/null}" >out 2>err || status=$?
+    gave "${*:4}" "$1" "$2" "$3"
 }
 
 bytes() { # numbers of 32 bits, as a table holds them
@@ -240,58 +246,58 @@ is 2 '' "gillacorn: can't read nothing: No such file*" frames --old old --new no
 # Opened, and then each read fails.
 is 2 '' "gillacorn: can't read /proc/self/mem: *" draw /proc/self/mem 800 1300
 from=/proc/self/mem is 2 '' "gillacorn: can't read standard input: *" draw - 800 1300
-if [ "$(id -u)" -ne 0 ]; then
-    : >locked
-    chmod 0 locked
-    is 2 '' "gillacorn: can't read locked: Permission denied*" draw locked 800 1300
-fi
-# A pipe that has half of the table when its end is not in sight yet.
-half_there() {
-    perl -MFcntl -e '
-        pipe(R, W);
-        fcntl(R, F_SETFL, O_NONBLOCK);
-        open T, "<", "T"; read T, my $half, 16; syswrite W, $half;
-        open STDIN, "<&", R;
-        fcntl(W, F_SETFD, 0);
-        exec @ARGV or die' -- ${GILLACORN_EMULATOR:-} \
-        "$rust/target/$CARGO_BUILD_TARGET/release/gillacorn" "$@" >out 2>err
-}
+# Root may read anything, so the question is asked as someone else.
+: >locked
+chmod 0 locked
+chmod 755 .
+program=$rust/target/$CARGO_BUILD_TARGET/release/gillacorn
+cp "$program" program
 status=0
-half_there draw - 800 1300 || status=$?
-[ "$status" -eq 2 ] && [ ! -s out ] && grep -q "can't read standard input" err ||
-    fail "half of a table: exit status $status: $(cat out err)"
+perl -e '
+    if ($> == 0) { $( = $) = "65534 65534"; $< = $> = 65534 }
+    exec @ARGV or die' -- ${GILLACORN_EMULATOR:-} ./program draw locked 800 1300 >out 2>err || status=$?
+gave "an unreadable file" 2 '' "gillacorn: can't read locked: Permission denied*"
+# A pipe that has half of the table, and no end in sight.
+status=0
+perl -MFcntl -e '
+    pipe(R, W);
+    fcntl(R, F_SETFL, O_NONBLOCK);
+    fcntl(W, F_SETFD, 0);
+    open T, "<", "T"; read T, my $half, 16; syswrite W, $half;
+    open STDIN, "<&", R;
+    exec @ARGV or die' -- ${GILLACORN_EMULATOR:-} "$program" draw - 800 1300 >out 2>err || status=$?
+gave "half of a table" 2 '' "gillacorn: can't read standard input: *"
 status=0
 run gillacorn draw - 800 1300 <&- >out 2>err || status=$?
-[ "$status" -eq 2 ] && [ ! -s out ] && grep -q "can't read standard input: it is closed" err ||
-    fail "a closed input: exit status $status: $(cat out err)"
-asked=$((asked + 2))
+gave "a closed input" 2 '' "gillacorn: can't read standard input: it is closed"
 
 # ---- output that fails
 
+: >out
 for words in 'draw T 800 1300' 'window T 800 1400 --json' 'draw cut 800 1300 --json' --help; do
-    status=0
+    wrong="*gillacorn: can't write the answer: "
     # shellcheck disable=SC2086
-    run gillacorn $words >/dev/full 2>err || status=$?
-    [ "$status" -eq 2 ] && grep -q "can't write the answer: No space" err ||
-        fail "$words, a full output: exit status $status: $(cat err)"
-    status=0
-    # shellcheck disable=SC2086
-    run gillacorn $words 2>err >&- || status=$?
-    [ "$status" -eq 2 ] && grep -q "can't write the answer: standard output is closed" err ||
-        fail "$words, a closed output: exit status $status: $(cat err)"
-    # The reader is gone before a word is written.
-    mkfifo pipe
-    status=0
-    # shellcheck disable=SC2086
-    { exec 3<>pipe 4>pipe 3<&-; run gillacorn $words >&4 2>err || status=$?; exec 4>&-; }
-    rm pipe
-    [ "$status" -eq 2 ] && grep -q "can't write the answer: Broken pipe" err ||
-        fail "$words, a closed pipe: exit status $status: $(cat err)"
-    asked=$((asked + 3))
+    {
+        status=0
+        run gillacorn $words >/dev/full 2>err || status=$?
+        gave "$words, a full output" 2 '' "${wrong}No space*"
+        status=0
+        run gillacorn $words 2>err >&- || status=$?
+        gave "$words, a closed output" 2 '' "${wrong}standard output is closed"
+        # The reader is gone before a word is written.
+        mkfifo pipe
+        exec 3<>pipe 4>pipe 3<&-
+        status=0
+        run gillacorn $words >&4 2>err || status=$?
+        exec 4>&-
+        rm pipe
+        gave "$words, a closed pipe" 2 '' "${wrong}Broken pipe*"
+    }
 done
 status=0
 run gillacorn draw T 800 1400 >out 2>&- || status=$?
-[ "$status" -eq 1 ] && [ ! -s out ] || fail "a closed standard error: exit status $status"
+: >err
+gave "a closed standard error" 1 '' ''
 
 # ---- on a terminal, work that takes long is counted
 

@@ -158,7 +158,7 @@ impl fmt::Debug for ImageSectionHeader {
 /// assert_eq!(SectionTable::new(&bytes[1..]).header(0), Err(Refusal::Length));
 /// # Ok::<(), Refusal>(())
 /// ```
-#[derive(Clone, Copy, Debug, Default)]
+#[derive(Clone, Copy, Debug, Default, Eq, Hash, PartialEq)]
 pub struct SectionTable<'t>(pub(crate) &'t [u8]);
 
 impl<'t> SectionTable<'t> {

@@ -39,7 +39,7 @@ impl fmt::Debug for OMAPRecord {
 /// assert_eq!(table.lookup(0xf)?, None);
 /// # Ok::<(), Refusal>(())
 /// ```
-#[derive(Clone, Copy, Debug, Default)]
+#[derive(Clone, Copy, Debug, Default, Eq, Hash, PartialEq)]
 pub struct OMAPTable<'t>(pub(crate) &'t [u8]);
 
 impl<'t> OMAPTable<'t> {
