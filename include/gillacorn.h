@@ -27,7 +27,7 @@ extern "C" {
 #define GILLACORN_VALUE 0u
 #define GILLACORN_NONE 255u
 
-typedef struct { uint32_t code; uint32_t value; } gillacorn_value;
+typedef struct { uint32_t code; uint32_t value; } gillacorn_value_answer;
 
 /* ---- section headers (pe) ---- */
 
@@ -58,66 +58,66 @@ typedef struct {
 gillacorn_flags gillacorn_characteristics(uint32_t characteristics);
 
 /* The alignment that the characteristics give, or none. */
-gillacorn_value gillacorn_alignment(uint32_t characteristics);
+gillacorn_value_answer gillacorn_alignment(uint32_t characteristics);
 
 /* ---- OMAP tables ---- */
 
-typedef struct { uint32_t code; uint32_t source, target; } gillacorn_record;
-typedef struct { uint32_t code; size_t pieces; } gillacorn_pieces;
+typedef struct { uint32_t code; uint32_t source, target; } gillacorn_record_answer;
+typedef struct { uint32_t code; size_t pieces; } gillacorn_pieces_answer;
 typedef struct { uint32_t address, end, source, target; size_t place; } gillacorn_cursor;
-typedef struct { uint32_t code; gillacorn_cursor cursor; } gillacorn_started;
-typedef struct { uint32_t code; uint32_t start, end; gillacorn_cursor cursor; } gillacorn_step;
+typedef struct { uint32_t code; gillacorn_cursor cursor; } gillacorn_cursor_answer;
+typedef struct { uint32_t code; uint32_t start, end; gillacorn_cursor cursor; } gillacorn_step_answer;
 
 /* The record at a place from 0. None past the last; 1 or 2 for a bad table. */
-gillacorn_record gillacorn_record_at(const uint8_t *table, size_t length, size_t place);
+gillacorn_record_answer gillacorn_record_at(const uint8_t *table, size_t length, size_t place);
 
 /* The single translation of an address: 1, 2, 3, none, or 4. With no table, the address itself. */
-gillacorn_value gillacorn_lookup(bool present, const uint8_t *table, size_t length, uint32_t address);
+gillacorn_value_answer gillacorn_lookup(bool present, const uint8_t *table, size_t length, uint32_t address);
 
 /* The pieces of the window a..b, as pairs of start and excluded end in `out`; refusals 1, 2, 3, 4,
  * then 5. `pieces` is their number, also with code 5, where it is the number needed. */
-gillacorn_pieces gillacorn_lookup_range(bool present, const uint8_t *table, size_t length,
-                                        uint32_t a, uint32_t b, uint32_t *out, size_t places);
+gillacorn_pieces_answer gillacorn_lookup_range(bool present, const uint8_t *table, size_t length,
+                                               uint32_t a, uint32_t b, uint32_t *out, size_t places);
 
 /* A cursor over the pieces of a..b: 1, 2, 3, or the cursor. */
-gillacorn_started gillacorn_cursor_start(bool present, const uint8_t *table, size_t length,
-                                         uint32_t a, uint32_t b);
+gillacorn_cursor_answer gillacorn_cursor_start(bool present, const uint8_t *table, size_t length,
+                                               uint32_t a, uint32_t b);
 
 /* The next piece and the next cursor; none and the cursor left behind; or 1, 2, 6, 4 and the
  * cursor unchanged. Any table, in order or not. */
-gillacorn_step gillacorn_cursor_step(gillacorn_cursor cursor, bool present, const uint8_t *table,
-                                     size_t length);
+gillacorn_step_answer gillacorn_cursor_step(gillacorn_cursor cursor, bool present, const uint8_t *table,
+                                            size_t length);
 
 typedef struct { uint32_t start, end; } gillacorn_piece;
 
 /* As gillacorn_lookup_range, into a list of records. */
-gillacorn_pieces gillacorn_list(bool present, const uint8_t *table, size_t length, uint32_t a,
-                                uint32_t b, gillacorn_piece *list, size_t records);
+gillacorn_pieces_answer gillacorn_list(bool present, const uint8_t *table, size_t length, uint32_t a,
+                                       uint32_t b, gillacorn_piece *list, size_t records);
 
 /* ---- clash and way back ---- */
 
-typedef struct { uint32_t code; uint32_t first, second; } gillacorn_pair;
-typedef struct { uint32_t code; uint32_t sources; uint32_t first, second; } gillacorn_sources;
+typedef struct { uint32_t code; uint32_t first, second; } gillacorn_pair_answer;
+typedef struct { uint32_t code; uint32_t sources; uint32_t first, second; } gillacorn_sources_answer;
 
 /* The least pair of window addresses with one translation; none where the window is single; or
  * 1, 2, 3, 4. */
-gillacorn_pair gillacorn_clash(const uint8_t *table, size_t length, uint32_t a, uint32_t b);
+gillacorn_pair_answer gillacorn_clash(const uint8_t *table, size_t length, uint32_t a, uint32_t b);
 
 /* The addresses of a..b that translate to t: none, the one (`sources` 1), or the two least
  * (`sources` 2); or 1, 2, 3, 4. */
-gillacorn_sources gillacorn_way_back(const uint8_t *table, size_t length, uint32_t a, uint32_t b,
-                                     uint32_t t);
+gillacorn_sources_answer gillacorn_way_back(const uint8_t *table, size_t length, uint32_t a, uint32_t b,
+                                            uint32_t t);
 
 /* ---- sections and the address map ---- */
 
-typedef struct { uint32_t code; uint16_t section; uint32_t offset; } gillacorn_offset;
+typedef struct { uint32_t code; uint16_t section; uint32_t offset; } gillacorn_offset_answer;
 
 /* The section, from 1, and the offset in it of an address; none; or 1, 2. */
-gillacorn_offset gillacorn_section_offset(const uint8_t *table, size_t length, uint32_t address);
+gillacorn_offset_answer gillacorn_section_offset(const uint8_t *table, size_t length, uint32_t address);
 
 /* The address of an offset in a section; none for section 0 and past the last; or 1, 2, 4. */
-gillacorn_value gillacorn_virtual_address(const uint8_t *table, size_t length, uint16_t section,
-                                          uint32_t offset);
+gillacorn_value_answer gillacorn_virtual_address(const uint8_t *table, size_t length, uint16_t section,
+                                                 uint32_t offset);
 
 /* The four tables of an address map, each behind its mark. */
 #define GILLACORN_MAP                                                                     \
@@ -131,42 +131,42 @@ gillacorn_value gillacorn_virtual_address(const uint8_t *table, size_t length, u
  * transformed ones where they are present, else the original ones. */
 
 /* An address of the executable, through to-original: 1, 2, 3, none, 4. */
-gillacorn_value gillacorn_rva_to_internal_rva(uint32_t rva, GILLACORN_MAP);
+gillacorn_value_answer gillacorn_rva_to_internal_rva(uint32_t rva, GILLACORN_MAP);
 
 /* An address of the executable, in the actual sections: 1, 2, none. */
-gillacorn_offset gillacorn_rva_to_section_offset(uint32_t rva, GILLACORN_MAP);
+gillacorn_offset_answer gillacorn_rva_to_section_offset(uint32_t rva, GILLACORN_MAP);
 
 /* An address of the executable, through to-original, in the original sections. */
-gillacorn_offset gillacorn_rva_to_internal_offset(uint32_t rva, GILLACORN_MAP);
+gillacorn_offset_answer gillacorn_rva_to_internal_offset(uint32_t rva, GILLACORN_MAP);
 
 /* An address of the PDB, through to-transformed: 1, 2, 3, none, 4. */
-gillacorn_value gillacorn_internal_rva_to_rva(uint32_t rva, GILLACORN_MAP);
+gillacorn_value_answer gillacorn_internal_rva_to_rva(uint32_t rva, GILLACORN_MAP);
 
 /* An address of the PDB, through to-transformed, in the actual sections. */
-gillacorn_offset gillacorn_internal_rva_to_section_offset(uint32_t rva, GILLACORN_MAP);
+gillacorn_offset_answer gillacorn_internal_rva_to_section_offset(uint32_t rva, GILLACORN_MAP);
 
 /* An address of the PDB, in the original sections: 1, 2, none. */
-gillacorn_offset gillacorn_internal_rva_to_internal_offset(uint32_t rva, GILLACORN_MAP);
+gillacorn_offset_answer gillacorn_internal_rva_to_internal_offset(uint32_t rva, GILLACORN_MAP);
 
 /* An offset in the actual sections, as an address of the executable: 1, 2, none, 4. */
-gillacorn_value gillacorn_offset_to_rva(uint16_t section, uint32_t offset, GILLACORN_MAP);
+gillacorn_value_answer gillacorn_offset_to_rva(uint16_t section, uint32_t offset, GILLACORN_MAP);
 
 /* An offset in the actual sections, then through to-original. */
-gillacorn_value gillacorn_offset_to_internal_rva(uint16_t section, uint32_t offset, GILLACORN_MAP);
+gillacorn_value_answer gillacorn_offset_to_internal_rva(uint16_t section, uint32_t offset, GILLACORN_MAP);
 
 /* An offset in the transformed sections, through to-original, in the original sections; with no
  * transformed sections the same offset, and no table is read. */
-gillacorn_offset gillacorn_offset_to_internal_offset(uint16_t section, uint32_t offset, GILLACORN_MAP);
+gillacorn_offset_answer gillacorn_offset_to_internal_offset(uint16_t section, uint32_t offset, GILLACORN_MAP);
 
 /* An offset in the original sections, then through to-transformed. */
-gillacorn_value gillacorn_internal_offset_to_rva(uint16_t section, uint32_t offset, GILLACORN_MAP);
+gillacorn_value_answer gillacorn_internal_offset_to_rva(uint16_t section, uint32_t offset, GILLACORN_MAP);
 
 /* An offset in the original sections, as an address of the PDB: 1, 2, none, 4. */
-gillacorn_value gillacorn_internal_offset_to_internal_rva(uint16_t section, uint32_t offset, GILLACORN_MAP);
+gillacorn_value_answer gillacorn_internal_offset_to_internal_rva(uint16_t section, uint32_t offset, GILLACORN_MAP);
 
 /* An offset in the original sections, through to-transformed, in the transformed sections; with no
  * transformed sections the same offset, and no table is read. */
-gillacorn_offset gillacorn_internal_offset_to_section_offset(uint16_t section, uint32_t offset, GILLACORN_MAP);
+gillacorn_offset_answer gillacorn_internal_offset_to_section_offset(uint16_t section, uint32_t offset, GILLACORN_MAP);
 
 /* ---- frames ---- */
 
@@ -182,8 +182,8 @@ typedef struct {
 
 typedef struct { size_t old_index, new_index; } gillacorn_frame_cursor;
 typedef struct { uint32_t code; gillacorn_frame frame; } gillacorn_frame_answer;
-typedef struct { uint32_t code; gillacorn_frame_cursor cursor; } gillacorn_frame_started;
-typedef struct { uint32_t code; gillacorn_frame frame; gillacorn_frame_cursor cursor; } gillacorn_frame_step;
+typedef struct { uint32_t code; gillacorn_frame_cursor cursor; } gillacorn_frame_cursor_answer;
+typedef struct { uint32_t code; gillacorn_frame frame; gillacorn_frame_cursor cursor; } gillacorn_frame_step_answer;
 
 #define GILLACORN_FRAMES                                              \
     bool has_old, const uint8_t *old_frames, size_t old_length,       \
@@ -195,13 +195,13 @@ gillacorn_frame_answer gillacorn_new_frame(const uint8_t *table, size_t length, 
 
 /* The next frame and the next cursor; none at the end; or 1, 2 (old, then new), 4. At the end and
  * with a refusal the cursor is as it was. */
-gillacorn_frame_step gillacorn_frame_next(gillacorn_frame_cursor cursor, GILLACORN_FRAMES);
+gillacorn_frame_step_answer gillacorn_frame_next(gillacorn_frame_cursor cursor, GILLACORN_FRAMES);
 
 /* The cursor that starts at an address; or 1, 2, 3 of old, then of new. */
-gillacorn_frame_started gillacorn_frames_at(uint32_t address, GILLACORN_FRAMES);
+gillacorn_frame_cursor_answer gillacorn_frames_at(uint32_t address, GILLACORN_FRAMES);
 
 /* 1 if there is no frame, else 0; or 1, 2 of old, then of new. */
-gillacorn_value gillacorn_frames_empty(GILLACORN_FRAMES);
+gillacorn_value_answer gillacorn_frames_empty(GILLACORN_FRAMES);
 
 #ifdef __cplusplus
 }

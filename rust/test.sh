@@ -1,6 +1,6 @@
 #!/usr/bin/env bash
-# The wrapper's own tests (the examples in its documentation), its example program on a table, and
-# the C example.
+# The wrapper's own tests and the examples in its documentation, what a build says that can't link,
+# and the C example.
 set -euo pipefail
 . "$(dirname "$0")/lib.sh"
 
@@ -14,6 +14,10 @@ if [ -n "${GILLACORN_EMULATOR:-}" ]; then
 fi
 cargo_here "${tests[@]}"
 
+# Without an allocator, and without std.
+cargo_here check -p gillacorn --no-default-features
+cargo_here check -p gillacorn --no-default-features --features alloc
+
 work=$(mktemp -d)
 trap 'rm -rf "$work"' EXIT
 
@@ -22,20 +26,28 @@ same() { # what it is, its output, and what is expected on standard input
     echo "$1: $(wc -l <"$2") lines as they should be"
 }
 
-cargo_here build --release -p gillacorn --example faultdesk
-# Document 01's table T: 1000 to 5000, 1100 to nothing, 1200 to 4000, 1300 to 5080.
-printf '\0\x10\0\0\0\x50\0\0\0\x11\0\0\0\0\0\0\0\x12\0\0\0\x40\0\0\0\x13\0\0\x80\x50\0\0' >"$work/T"
-head -c 31 "$work/T" >"$work/cut"
-run examples/faultdesk "$work/T" FFF 10FF 1100 2000 FFFFFFFF >"$work/faultdesk"
-run examples/faultdesk "$work/cut" 1000 >>"$work/faultdesk"
-same "faultdesk (Rust)" "$work/faultdesk" <<'EOF'
-00000FFF hole
-000010FF 000050FF
-00001100 hole
-00002000 00005D80
-FFFFFFFF refused 4: a sum or product exceeds 32 bits
-00001000 refused 1: the table's length is no multiple of its record
-EOF
+# What a build says that can't link: one sentence of build.rs, and no word of a linker.
+refused_build() { # what it is, words of the sentence, then words for cargo
+    if cargo_here check -p gillacorn "${@:3}" 2>"$work/build"; then
+        echo "$1: built all the same" >&2
+        exit 1
+    fi
+    grep -q "^ *gillacorn: .*$2" "$work/build" && ! grep -q "linking with" "$work/build" || {
+        cat "$work/build" >&2
+        echo "$1: not told" >&2
+        exit 1
+    }
+    echo "$1: told"
+}
+(
+    export GILLACORN_LIB=$work
+    refused_build "build without an archive" "there is no archive $work/libgillacorn.a"
+)
+(
+    unset GILLACORN_LIB
+    refused_build "build for another machine" "this build is for aarch64" \
+        --target aarch64-unknown-linux-gnu
+)
 
 "$CARGO_TARGET_X86_64_UNKNOWN_LINUX_GNU_LINKER" -std=c99 -Wall -Wextra -pedantic -static -O2 \
     -I "$repository/include" "$repository/tests/example.c" "$GILLACORN_LIB/libgillacorn.a" \

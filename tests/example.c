@@ -13,7 +13,7 @@ static uint8_t table[sizeof records];
 
 static void translate(uint32_t address)
 {
-    gillacorn_value answer = gillacorn_lookup(true, table, sizeof table, address);
+    gillacorn_value_answer answer = gillacorn_lookup(true, table, sizeof table, address);
     if (answer.code == GILLACORN_VALUE)
         printf("%08" PRIX32 " %08" PRIX32 "\n", address, answer.value);
     else if (answer.code == GILLACORN_NONE)
@@ -33,7 +33,7 @@ int main(void)
     translate(0xFFFFFFFF);
 
     uint32_t out[8];
-    gillacorn_pieces window =
+    gillacorn_pieces_answer window =
         gillacorn_lookup_range(true, table, sizeof table, 0x0800, 0x1400, out, 8);
     for (size_t i = 0; window.code == GILLACORN_VALUE && i < window.pieces; i++)
         printf("%08" PRIX32 " %08" PRIX32 "\n", out[2 * i], out[2 * i + 1]);

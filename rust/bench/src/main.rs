@@ -5,7 +5,7 @@ mod inputs;
 
 use std::time::{Duration, Instant};
 
-use gillacorn::{AddressMap, FallibleIterator, FrameTable, OMAPTable, SectionTable};
+use gillacorn::{AddressMap, FrameTable, OMAPTable, SectionTable};
 use oracle::Tables;
 
 use crate::inputs::{addresses, apart, frames, omap, sections};
@@ -194,8 +194,8 @@ fn conversion() {
     let map = AddressMap {
         original_sections: Some(&original),
         transformed_sections: Some(&transformed),
-        transformed_to_original: None,
-        original_to_transformed: Some(&moved),
+        to_original: None,
+        to_transformed: Some(&moved),
     };
     let asked = addresses(2_000, 0x1000);
     row(
@@ -226,7 +226,7 @@ fn frame_iteration() {
         1,
         || {
             let (mut iter, mut sum) = (table.iter(), 0);
-            while let Some(frame) = iter.next().unwrap() {
+            while let Some(frame) = iter.next().transpose().unwrap() {
                 sum = add(sum, Some(frame.code_start.0 ^ frame.locals_size));
             }
             sum
@@ -254,8 +254,8 @@ fn frame_start() {
             let first = |a| {
                 table
                     .iter_at_rva(gillacorn::PdbInternalRva(a))
-                    .unwrap()
                     .next()
+                    .transpose()
             };
             let start = |a| first(a).unwrap().map(|frame| frame.code_start.0);
             asked.iter().fold(0, |sum, &a| add(sum, start(a)))

@@ -1,26 +1,29 @@
 //! Gillacorn and pdb on the same inputs. See `USAGE`.
 
+mod addresses;
 mod case;
-mod clash;
-mod cursor;
+mod clashes;
+mod formats;
 mod frames;
 mod gen;
-mod list;
-mod map;
+mod headers;
+mod judged;
+mod lookups;
 mod omap;
+mod operations;
 mod ours;
-mod pe;
 mod replay;
 mod rng;
 mod rules;
-mod sections;
 mod tally;
+mod windows;
 
 use std::process::ExitCode;
 
 use crate::replay::Sample;
 use crate::rng::Rng;
 use crate::tally::Tally;
+use crate::windows::lists;
 
 const USAGE: &str = "\
 differential [--seed N] [--inputs N | --inputs GROUP=N | --gate | --full] [--only GROUPS] [--replay FILE]
@@ -28,19 +31,20 @@ differential [--seed N] [--inputs N | --inputs GROUP=N | --gate | --full] [--onl
     --inputs    at least this many questions to each group, or to one (20000)
     --gate      the size of the gate: 60,000 to each group
     --full      the full size: 10,000,000 questions or more in all
-    --only      some groups: pe omap ranges clash address_map frames
+    --only      some groups: headers omap (lookups, windows, cursors) lists clashes addresses frames formats
     --replay    write a sample of the answers to a file, once all of them agree";
 
 /// A group: its name, how many questions the full size asks, and what asks them.
 type Group = (&'static str, u64, fn(&mut Tally, &mut Rng, u64));
 
 const GROUPS: &[Group] = &[
-    ("pe", 1_300_000, pe::run),
+    ("headers", 1_300_000, headers::run),
     ("omap", 3_800_000, omap::run),
-    ("ranges", 500_000, list::run),
-    ("clash", 700_000, clash::run),
-    ("address_map", 2_500_000, map::run),
+    ("lists", 500_000, lists::run),
+    ("clashes", 700_000, clashes::run),
+    ("addresses", 2_500_000, addresses::run),
     ("frames", 1_500_000, frames::run),
+    ("formats", 5_000, formats::run),
 ];
 
 struct Words {

@@ -20,7 +20,7 @@
 //! | 4 | alignment | u32 characteristics | code, u32 |
 //! | 5 | record_at | T, u32 place | code, u32 source, u32 target |
 //! | 6 | lookup | T, u32 address | code, u32 |
-//! | 7 | lookup_range | T, u32 a, u32 b, u16 places | code, u32 pieces, then the `places` u32 of the output at exit; at entry each is A5A5A500h + its place |
+//! | 7 | window | T, u32 a, u32 b, u16 places | code, u32 pieces, then the `places` u32 of the output at exit; at entry each is A5A5A500h + its place |
 //! | 8 | cursor start | T, u32 a, u32 b | code, cursor |
 //! | 9 | cursor step | T, cursor | code, u32 start, u32 end, cursor |
 //! | 10 | list | T, u32 a, u32 b, u16 records | as 7, with two places for each record |
@@ -33,7 +33,7 @@
 //! | 17 | frame iteration | T old, T new, u32 old_index, u32 new_index | code, frame, u32 old_index, u32 new_index |
 //! | 18 | frames from an address | T old, T new, u32 address | code, u32 old_index, u32 new_index |
 //! | 19 | is_empty | T old, T new | code, u32 1 or 0 |
-//! | 20 to 31 | the conversions, in the face's order | T original sections, T transformed sections, T to-original, T to-transformed, u16 section, u32 rva or offset | code, u16 section, u32 rva or offset |
+//! | 20 to 31 | the conversions, in the face's order | T original_sections, T transformed_sections, T to_original, T to_transformed, u16 section, u32 rva or offset | code, u16 section, u32 rva or offset |
 //!
 //! In 7 and 10 `pieces` is told with code 5 too. In 8 and 9 a refusal hands a cursor back: zeros for
 //! 8, the unchanged one for 9; in 9 code 255 comes with the cursor left behind. In 17 the end and a
@@ -43,8 +43,8 @@
 use std::io;
 
 use crate::case::{Case, Put};
+use crate::operations::{Judge, Op};
 use crate::rng::Rng;
-use crate::tally::{Judge, Op};
 
 /// Every case of an operation and a judge has the same chance to be kept.
 pub struct Sample {

@@ -3,75 +3,8 @@
 use std::fmt::Debug;
 
 use crate::case::{Case, Put};
+use crate::operations::{Judge, Op};
 use crate::replay::Sample;
-
-macro_rules! operations {
-    ($($op:ident = $number:literal, $name:literal;)*) => {
-        /// An operation, with its number in a replay.
-        #[derive(Clone, Copy, Debug, Eq, PartialEq)]
-        pub enum Op { $($op),* }
-
-        impl Op {
-            pub const ALL: &'static [Op] = &[$(Op::$op),*];
-
-            pub fn name(self) -> &'static str {
-                match self { $(Op::$op => $name),* }
-            }
-
-            pub fn number(self) -> u8 {
-                match self { $(Op::$op => $number),* }
-            }
-        }
-    };
-}
-
-operations! {
-    Header = 1, "header";
-    Name = 2, "name";
-    Flags = 3, "flags";
-    Alignment = 4, "alignment";
-    RecordAt = 5, "record_at";
-    Lookup = 6, "lookup";
-    LookupRange = 7, "lookup_range";
-    CursorStart = 8, "cursor start";
-    CursorStep = 9, "cursor step";
-    List = 10, "list";
-    Clash = 11, "clash";
-    WayBack = 12, "way_back";
-    SectionOffset = 13, "section_offset";
-    VirtualAddress = 14, "virtual_address";
-    RvaToInternalRva = 20, "Rva::to_internal_rva";
-    RvaToSectionOffset = 21, "Rva::to_section_offset";
-    RvaToInternalOffset = 22, "Rva::to_internal_offset";
-    InternalRvaToRva = 23, "PdbInternalRva::to_rva";
-    InternalRvaToSectionOffset = 24, "PdbInternalRva::to_section_offset";
-    InternalRvaToInternalOffset = 25, "PdbInternalRva::to_internal_offset";
-    OffsetToRva = 26, "SectionOffset::to_rva";
-    OffsetToInternalRva = 27, "SectionOffset::to_internal_rva";
-    OffsetToInternalOffset = 28, "SectionOffset::to_internal_offset";
-    InternalOffsetToRva = 29, "PdbInternalSectionOffset::to_rva";
-    InternalOffsetToInternalRva = 30, "PdbInternalSectionOffset::to_internal_rva";
-    InternalOffsetToSectionOffset = 31, "PdbInternalSectionOffset::to_section_offset";
-    RvaRanges = 32, "rva_ranges";
-    InternalRvaRanges = 33, "internal_rva_ranges";
-    RangeIter = 34, "RangeIter (the wrapper's)";
-    OldFrame = 15, "old frame";
-    NewFrame = 16, "new frame";
-    FrameNext = 17, "frame iteration";
-    FramesAt = 18, "frames from an address";
-    FramesEmpty = 19, "is_empty";
-}
-
-/// Who says what is right.
-#[derive(Clone, Copy, Debug, Eq, PartialEq)]
-pub enum Judge {
-    /// pdb, inside the domain of equality.
-    Rust,
-    /// Document 01's rules, for refusals and outside the domain.
-    Rules,
-    /// A count over every address, for what pdb lacks.
-    Count,
-}
 
 /// A difference from pdb that docs/DIFFERENCES.md lists, met where pdb was asked all the same.
 #[derive(Clone, Copy, Debug, Eq, PartialEq)]

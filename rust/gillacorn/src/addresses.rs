@@ -1,156 +1,119 @@
-//! The four kinds of address. Each is a type of its own, so that one can't be passed for another.
+//! Addresses: from an address to its section and back, and the address map, which has every
+//! conversion between the four kinds of address.
 
-use std::fmt;
-use std::ops::{Add, AddAssign, Sub};
+mod kinds;
+mod map;
 
-macro_rules! virtual_address {
-    ($(#[$doc:meta])* $type:ident) => {
-        $(#[$doc])*
-        #[derive(Clone, Copy, Debug, Default, Eq, Hash, Ord, PartialEq, PartialOrd)]
-        pub struct $type(pub u32);
+pub use self::kinds::{PdbInternalRva, PdbInternalSectionOffset, Rva, SectionOffset};
+#[cfg(feature = "alloc")]
+pub use self::map::AddressMapBuf;
+pub use self::map::{AddressMap, PdbInternalRvaRangeIter, RvaRangeIter};
+use crate::ffi;
+use crate::headers::SectionTable;
+use crate::refusal::{answer, Result};
 
-        impl $type {
-            /// Checked addition of an offset. Returns `None` if overflow occurred.
-            pub fn checked_add(self, offset: u32) -> Option<Self> {
-                self.0.checked_add(offset).map(Self)
-            }
+impl SectionTable<'_> {
+    /// The section, from 1, and the offset in it of an address: the first section that holds it,
+    /// sought up to the first header that begins later. Refusals 1 and 2.
+    #[inline]
+    pub fn section_offset(self, address: u32) -> Result<Option<SectionOffset>> {
+        let given = ffi::section_offset(self.0, address);
+        let offset = SectionOffset::new(given.section, given.offset);
+        answer(given.code, 0, offset)
+    }
 
-            /// Checked computation of an offset between two addresses. Returns `None` if `other` is
-            /// larger.
-            pub fn checked_sub(self, other: Self) -> Option<u32> {
-                self.0.checked_sub(other.0)
-            }
+    /// The address of an offset in a section; none for section 0 and past the last. The offset is
+    /// not compared with the section's size. Refusals 1, 2 and 4.
+    #[inline]
+    pub fn virtual_address(self, section: u16, offset: u32) -> Result<Option<u32>> {
+        let given = ffi::virtual_address(self.0, section, offset);
+        answer(given.code, 0, given.value)
+    }
+}
 
-            /// Saturating addition of an offset, clipped at the numeric bounds.
-            pub fn saturating_add(self, offset: u32) -> Self {
-                Self(self.0.saturating_add(offset))
-            }
+/// An address out of an answer of the face.
+trait Given<Raw>: Sized {
+    fn given(raw: Raw) -> Result<Option<Self>>;
+}
 
-            /// Saturating computation of an offset between two addresses, clipped at zero.
-            pub fn saturating_sub(self, other: Self) -> u32 {
-                self.0.saturating_sub(other.0)
-            }
-
-            /// Wrapping (modular) addition of an offset.
-            pub fn wrapping_add(self, offset: u32) -> Self {
-                Self(self.0.wrapping_add(offset))
-            }
-
-            /// Wrapping (modular) computation of an offset between two addresses.
-            pub fn wrapping_sub(self, other: Self) -> u32 {
-                self.0.wrapping_sub(other.0)
-            }
-        }
-
-        impl Sub for $type {
-            type Output = u32;
-
-            /// The offset between two addresses. Panics in every build if `other` is larger.
-            fn sub(self, other: Self) -> u32 {
-                self.checked_sub(other).expect("an offset below zero")
+macro_rules! given {
+    (rva $type:ident) => {
+        impl Given<ffi::ValueAnswer> for $type {
+            #[inline]
+            fn given(raw: ffi::ValueAnswer) -> Result<Option<Self>> {
+                answer(raw.code, 0, $type(raw.value))
             }
         }
-
-        impl From<u32> for $type {
-            fn from(address: u32) -> Self {
-                Self(address)
-            }
-        }
-
-        impl From<$type> for u32 {
-            fn from(address: $type) -> Self {
-                address.0
-            }
-        }
-
-        impl fmt::Display for $type {
-            fn fmt(&self, f: &mut fmt::Formatter<'_>) -> fmt::Result {
-                write!(f, "{:#x}", self.0)
+    };
+    (offset $type:ident) => {
+        impl Given<ffi::OffsetAnswer> for $type {
+            #[inline]
+            fn given(raw: ffi::OffsetAnswer) -> Result<Option<Self>> {
+                answer(raw.code, 0, $type::new(raw.section, raw.offset))
             }
         }
     };
 }
 
-virtual_address! {
-    /// A Relative Virtual Address as it appears in a PE file: what a sample or a stack trace has.
-    Rva
-}
+given!(rva Rva);
+given!(rva PdbInternalRva);
+given!(offset SectionOffset);
+given!(offset PdbInternalSectionOffset);
 
-virtual_address! {
-    /// A Relative Virtual Address before the executable was rearranged, as a PDB uses it.
-    PdbInternalRva
-}
-
-macro_rules! section_offset {
-    ($(#[$doc:meta])* $type:ident) => {
-        $(#[$doc])*
-        #[derive(Clone, Copy, Debug, Default, Eq, Hash, PartialEq)]
-        pub struct $type {
-            /// The offset from the start of the section.
-            pub offset: u32,
-            /// The section's number from 1; 0 is no section.
-            pub section: u16,
-        }
-
-        impl $type {
-            /// Creates a new section offset.
-            pub fn new(section: u16, offset: u32) -> Self {
-                Self { offset, section }
-            }
-
-            /// Returns whether this section offset points to a valid section or into the void.
-            pub fn is_valid(self) -> bool {
-                self.section != 0
-            }
-
-            /// Checked addition of an offset. Returns `None` if overflow occurred.
-            pub fn checked_add(self, offset: u32) -> Option<Self> {
-                let offset = self.offset.checked_add(offset)?;
-                Some(Self { offset, ..self })
-            }
-
-            /// Saturating addition of an offset, clipped at the numeric bounds.
-            pub fn saturating_add(self, offset: u32) -> Self {
-                Self::new(self.section, self.offset.saturating_add(offset))
-            }
-
-            /// Wrapping (modular) addition of an offset.
-            pub fn wrapping_add(self, offset: u32) -> Self {
-                Self::new(self.section, self.offset.wrapping_add(offset))
-            }
-        }
+/// Asks the face for a conversion of an rva or of a section offset.
+macro_rules! ask {
+    (rva $from:ident, $face:ident, $map:expr) => {
+        ffi::$face($from.0, $map)
+    };
+    (offset $from:ident, $face:ident, $map:expr) => {
+        ffi::$face($from.section, $from.offset, $map)
     };
 }
 
-section_offset! {
-    /// An offset into a section of the executable.
-    SectionOffset
-}
-
-section_offset! {
-    /// An offset into a section of the executable before it was rearranged, as a PDB stores it.
-    PdbInternalSectionOffset
-}
-
-macro_rules! plus_offset {
-    ($($type:ty),*) => {$(
-        impl Add<u32> for $type {
-            type Output = Self;
-
-            /// Adds an offset. Panics in every build where the sum does not fit: a wrapped address
-            /// would be drawn in the wrong place.
-            fn add(self, offset: u32) -> Self {
-                self.checked_add(offset).expect("an address past 32 bits")
+macro_rules! conversions {
+    ($kind:ident $from:ident {$($(#[$doc:meta])* $name:ident -> $to:ident = $face:ident;)*}) => {
+        impl $from {$(
+            $(#[$doc])*
+            #[inline]
+            pub fn $name(self, translator: &AddressMap<'_>) -> Result<Option<$to>> {
+                $to::given(ask!($kind self, $face, &translator.lent()))
             }
-        }
-
-        impl AddAssign<u32> for $type {
-            /// Adds an offset, as `+` does.
-            fn add_assign(&mut self, offset: u32) {
-                *self = *self + offset;
-            }
-        }
-    )*};
+        )*}
+    };
 }
 
-plus_offset!(Rva, PdbInternalRva, SectionOffset, PdbInternalSectionOffset);
+conversions! { rva Rva {
+    /// Resolves a PDB-internal Relative Virtual Address.
+    to_internal_rva -> PdbInternalRva = rva_to_internal_rva;
+    /// Resolves the section offset in the PE headers.
+    to_section_offset -> SectionOffset = rva_to_section_offset;
+    /// Resolves the PDB internal section offset.
+    to_internal_offset -> PdbInternalSectionOffset = rva_to_internal_offset;
+} }
+
+conversions! { rva PdbInternalRva {
+    /// Resolves an actual Relative Virtual Address in the executable's address space.
+    to_rva -> Rva = internal_rva_to_rva;
+    /// Resolves the section offset in the PE headers.
+    to_section_offset -> SectionOffset = internal_rva_to_section_offset;
+    /// Resolves the PDB internal section offset.
+    to_internal_offset -> PdbInternalSectionOffset = internal_rva_to_internal_offset;
+} }
+
+conversions! { offset SectionOffset {
+    /// Resolves an actual Relative Virtual Address in the executable's address space.
+    to_rva -> Rva = offset_to_rva;
+    /// Resolves a PDB-internal Relative Virtual Address.
+    to_internal_rva -> PdbInternalRva = offset_to_internal_rva;
+    /// Resolves the PDB internal section offset.
+    to_internal_offset -> PdbInternalSectionOffset = offset_to_internal_offset;
+} }
+
+conversions! { offset PdbInternalSectionOffset {
+    /// Resolves an actual Relative Virtual Address in the executable's address space.
+    to_rva -> Rva = internal_offset_to_rva;
+    /// Resolves a PDB-internal Relative Virtual Address.
+    to_internal_rva -> PdbInternalRva = internal_offset_to_internal_rva;
+    /// Resolves the section offset in the PE headers.
+    to_section_offset -> SectionOffset = internal_offset_to_section_offset;
+} }

@@ -4,7 +4,7 @@
 //!
 //! Each is a file, or - for none. NAMES is the stream /names, where the programs' texts are.
 
-use gillacorn::{FallibleIterator, FrameTable, StringRef};
+use gillacorn::{FrameTable, StringRef};
 
 fn main() {
     let words: Vec<String> = std::env::args().skip(1).collect();
@@ -17,8 +17,8 @@ fn main() {
         [old, new, names] => (old.as_deref(), new.as_deref(), names.as_deref()),
         _ => panic!("frames OLD NEW NAMES"),
     };
-    let mut frames = FrameTable::new(old, new).iter();
-    while let Some(frame) = frames.next().expect("a refusal") {
+    for frame in FrameTable::new(old, new).iter() {
+        let frame = frame.expect("a refusal");
         println!(
             "{:08X} {} {} {} {} {} {} {} {} {} {} {}",
             frame.code_start.0,

@@ -1,109 +1,17 @@
-//! The address map: the twelve conversions and the two range conversions with every combination of
-//! presence marks.
+//! The twelve conversions of an address map.
 
 use gillacorn::ffi::{self, Lent, Map};
-use gillacorn::{
-    AddressMap, PdbInternalRva, PdbInternalSectionOffset, Refusal, Rva, SectionOffset,
-};
+use gillacorn::{AddressMap, PdbInternalRva, PdbInternalSectionOffset, Rva, SectionOffset};
 use oracle::Tables;
 
-use crate::gen;
-use crate::omap::{Asked, Output};
-use crate::ours::{both, code_if, given};
-use crate::rng::Rng;
-use crate::rules::{self, Answer, OMAP, SECTIONS};
-use crate::sections::{self, Sections};
-use crate::tally::{Listed, Op, Tally};
-
-const OPS: [Op; 16] = [
-    Op::SectionOffset,
-    Op::VirtualAddress,
-    Op::RvaToInternalRva,
-    Op::RvaToSectionOffset,
-    Op::RvaToInternalOffset,
-    Op::InternalRvaToRva,
-    Op::InternalRvaToSectionOffset,
-    Op::InternalRvaToInternalOffset,
-    Op::OffsetToRva,
-    Op::OffsetToInternalRva,
-    Op::OffsetToInternalOffset,
-    Op::InternalOffsetToRva,
-    Op::InternalOffsetToInternalRva,
-    Op::InternalOffsetToSectionOffset,
-    Op::RvaRanges,
-    Op::InternalRvaRanges,
-];
-
-pub fn run(tally: &mut Tally, rng: &mut Rng, want: u64) {
-    sections::edges(tally, rng);
-    let goal = tally.compared(&OPS) + want;
-    let mut marks = 0;
-    while tally.compared(&OPS) < goal {
-        marks = (marks + 1) % 16;
-        random(tally, rng, marks);
-    }
-}
-
-fn random(tally: &mut Tally, rng: &mut Rng, marks: usize) {
-    let tables: Vec<gen::Held> = (0..4)
-        .map(|number| match number {
-            0 | 1 => {
-                let table = gen::sections(rng);
-                gen::maybe_damaged(rng, table, SECTIONS)
-            }
-            _ => {
-                let table = gen::omap(rng);
-                gen::maybe_damaged(rng, table, OMAP)
-            }
-        })
-        .collect();
-    let lent = |number: usize| Lent {
-        present: marks >> number & 1 == 1,
-        bytes: &tables[number],
-    };
-    let asked = AskedMap::new([lent(0), lent(1), lent(2), lent(3)]);
-    for _ in 0..6 {
-        // Addresses that one of the tables makes interesting.
-        let (table, kind, offset) = match rng.below(4) {
-            number @ (0 | 1) => (&tables[number], SECTIONS, 12),
-            number => (&tables[number], OMAP, 0),
-        };
-        let address = gen::address(rng, table, kind, offset);
-        let headers = tables[rng.below(2)].len() / SECTIONS.width;
-        let section = rng.below(headers + 3) as u16;
-        let small = rng.u32() >> rng.below(32);
-        let offset = rng.pick(&[small, address, 0, 1, u32::MAX]);
-        for conversion in CONVERSIONS {
-            asked.convert(
-                tally,
-                conversion,
-                section,
-                if conversion.0 { offset } else { address },
-            );
-        }
-    }
-    for (number, to_rva) in [(3, true), (2, false)] {
-        let omap = Asked::new(asked.lent[number]);
-        for _ in 0..2 {
-            let (a, b) = crate::omap::window(rng, &tables[number]);
-            let need = omap.pieces(a, b).map_or(1, |pieces| pieces.len());
-            asked.ranges(tally, &omap, to_rva, a, b, rng.below(2 * need + 4));
-        }
-    }
-    for table in &tables[..2] {
-        let sections = Sections::new(table);
-        for _ in 0..4 {
-            sections.section_offset(tally, gen::address(rng, table, SECTIONS, 12));
-            let section = rng.below(table.len() / SECTIONS.width + 3) as u16;
-            let offset = gen::address(rng, table, SECTIONS, 12);
-            sections.virtual_address(tally, section, offset);
-        }
-    }
-}
+use crate::operations::Op;
+use crate::ours::{both, given};
+use crate::rules::{self, Answer};
+use crate::tally::{Listed, Tally};
 
 /// A step along a path, as document 01 has them.
 #[derive(Clone, Copy)]
-enum Along {
+pub enum Along {
     ToOriginal,
     ToTransformed,
     /// Address to section, in the original or the transformed sections.
@@ -115,9 +23,9 @@ use Along::*;
 
 /// Whether a section offset goes in, the operation, whether the input comes back where transformed
 /// sections are absent, and the path.
-type Conversion = (bool, Op, bool, &'static [Along]);
+pub type Conversion = (bool, Op, bool, &'static [Along]);
 
-const CONVERSIONS: [Conversion; 12] = [
+pub const CONVERSIONS: [Conversion; 12] = [
     (false, Op::RvaToInternalRva, false, &[ToOriginal]),
     (false, Op::RvaToSectionOffset, false, &[Section(true)]),
     (
@@ -172,17 +80,17 @@ const CONVERSIONS: [Conversion; 12] = [
     ),
 ];
 
-struct AskedMap<'t> {
-    lent: [Lent<'t>; 4],
-    rust: Option<oracle::AddressMap<'static>>,
+pub struct JudgedMap<'t> {
+    pub lent: [Lent<'t>; 4],
+    pub rust: Option<oracle::AddressMap<'static>>,
     extents_fit: bool,
 }
 
-impl<'t> AskedMap<'t> {
-    fn new(lent: [Lent<'t>; 4]) -> Self {
+impl<'t> JudgedMap<'t> {
+    pub fn new(lent: [Lent<'t>; 4]) -> Self {
         let present = lent.map(|table| table.present.then_some(table.bytes));
         let mut sections = present[..2].iter().flatten();
-        AskedMap {
+        JudgedMap {
             lent,
             rust: Tables::new(&present).address_map().ok(),
             extents_fit: sections.all(|table| rules::extents_fit(table)),
@@ -216,7 +124,7 @@ impl<'t> AskedMap<'t> {
         Ok(Some(at))
     }
 
-    fn convert(&self, tally: &mut Tally, conversion: Conversion, section: u16, number: u32) {
+    pub fn convert(&self, tally: &mut Tally, conversion: Conversion, section: u16, number: u32) {
         let (from_offset, op, comes_back, path) = conversion;
         let section = if from_offset { section } else { 0 };
         let rule = match comes_back && !self.lent[1].present {
@@ -234,7 +142,12 @@ impl<'t> AskedMap<'t> {
         };
         let ours = self.ours(op, section, number);
         tally.judge(op, rule, rust, ours, |case| {
-            let names = ["original", "transformed", "to_original", "to_transformed"];
+            let names = [
+                "original_sections",
+                "transformed_sections",
+                "to_original",
+                "to_transformed",
+            ];
             for (name, table) in names.iter().zip(self.lent) {
                 case.lent(name, table);
             }
@@ -295,72 +208,14 @@ impl<'t> AskedMap<'t> {
         }
     }
 
-    fn wrapped(&self) -> AddressMap<'t> {
+    pub fn wrapped(&self) -> AddressMap<'t> {
         AddressMap {
             original_sections: self.present(0),
             transformed_sections: self.present(1),
-            transformed_to_original: self.present(2),
-            original_to_transformed: self.present(3),
+            to_original: self.present(2),
+            to_transformed: self.present(3),
         }
     }
-
-    /// The two range conversions, whole and one by one.
-    fn ranges(
-        &self,
-        tally: &mut Tally,
-        omap: &Asked<'_>,
-        to_rva: bool,
-        a: u32,
-        b: u32,
-        places: usize,
-    ) {
-        let (rule, rust) = omap.judged(a, b, places / 2, places);
-        let map = self.wrapped();
-        let mut ours = Output::new(places);
-        let (op, told) = if to_rva {
-            let window = PdbInternalRva(a)..PdbInternalRva(b);
-            (Op::RvaRanges, map.rva_window(window, ours.lent()))
-        } else {
-            let window = Rva(a)..Rva(b);
-            (
-                Op::InternalRvaRanges,
-                map.internal_rva_window(window, ours.lent()),
-            )
-        };
-        ours.tell(told);
-        // One by one, the ranges are those of pdb's own iterators, where pdb has them.
-        if let (Ok(_), Some(theirs)) = (told, &self.rust) {
-            let same = if to_rva {
-                let theirs =
-                    theirs.rva_ranges(oracle::PdbInternalRva(a)..oracle::PdbInternalRva(b));
-                let ours = map.rva_ranges(PdbInternalRva(a)..PdbInternalRva(b));
-                let theirs: Vec<_> = theirs.map(|r| (r.start.0, r.end.0)).collect();
-                pairs(ours, |r| (r.start.0, r.end.0)) == Ok(theirs)
-            } else {
-                let theirs = theirs.internal_rva_ranges(oracle::Rva(a)..oracle::Rva(b));
-                let ours = map.internal_rva_ranges(Rva(a)..Rva(b));
-                let theirs: Vec<_> = theirs.map(|r| (r.start.0, r.end.0)).collect();
-                pairs(ours, |r| (r.start.0, r.end.0)) == Ok(theirs)
-            };
-            ours.code = code_if(same, ours.code);
-        }
-        tally.judge(op, rule, rust, ours, |case| {
-            let case = case.lent("table", omap.lent);
-            case.number("a", a)
-                .number("b", b)
-                .number("places", places as u16);
-        });
-    }
-}
-
-fn pairs<I, R>(
-    ranges: Result<I, Refusal>,
-    pair: fn(R) -> (u32, u32),
-) -> Result<Vec<(u32, u32)>, Refusal>
-where
-    I: Iterator<Item = Result<R, Refusal>>,
-{
-    ranges?.map(|range| range.map(pair)).collect()
 }
 
 /// pdb's own answer.

@@ -5,11 +5,12 @@ use gillacorn::{Cursor, OMAPTable, Step};
 
 use crate::case::{Case, Put};
 use crate::gen;
-use crate::omap::Asked;
+use crate::judged::JudgedTable;
+use crate::operations::Op;
 use crate::ours::code_if;
 use crate::rng::Rng;
 use crate::rules::{self, OMAP};
-use crate::tally::{Op, Tally};
+use crate::tally::Tally;
 
 /// A code, a piece and a cursor: what a start (without the piece) or a step gives.
 #[derive(Clone, Copy, Debug, PartialEq)]
@@ -45,7 +46,7 @@ fn fields_of(cursor: Cursor) -> [u32; 4] {
 }
 
 /// Starts a cursor and steps it until the end, and twice after it.
-pub fn walk(tally: &mut Tally, asked: &Asked<'_>, a: u32, b: u32) {
+pub fn walk(tally: &mut Tally, asked: &JudgedTable<'_>, a: u32, b: u32) {
     let stepped = |code, cursor| Stepped {
         code,
         piece: None,
@@ -90,7 +91,7 @@ pub fn walk(tally: &mut Tally, asked: &Asked<'_>, a: u32, b: u32) {
 }
 
 /// The pieces of pdb as it is, beside those of the build whose fields are seen.
-fn builds(tally: &mut Tally, asked: &Asked<'_>, a: u32, b: u32) {
+fn builds(tally: &mut Tally, asked: &JudgedTable<'_>, a: u32, b: u32) {
     let unchanged = asked.rust.as_ref().unwrap().lookup_range(a..b).collect();
     let fields = asked.fields.as_ref().unwrap();
     let mut opened = Vec::new();
@@ -105,7 +106,7 @@ fn builds(tally: &mut Tally, asked: &Asked<'_>, a: u32, b: u32) {
 }
 
 /// Steps a cursor that nothing started, some steps long.
-pub fn anywhere(tally: &mut Tally, rng: &mut Rng, asked: &Asked<'_>) {
+pub fn anywhere(tally: &mut Tally, rng: &mut Rng, asked: &JudgedTable<'_>) {
     let bytes = asked.lent.bytes;
     let mut number = |offset: usize| gen::address(rng, bytes, OMAP, offset);
     let mut fields = [number(0), number(0), number(0), number(0)];
@@ -131,7 +132,7 @@ pub fn anywhere(tally: &mut Tally, rng: &mut Rng, asked: &Asked<'_>) {
     }
 }
 
-fn step(tally: &mut Tally, asked: &Asked<'_>, cursor: Cursor) -> Stepped {
+fn step(tally: &mut Tally, asked: &JudgedTable<'_>, cursor: Cursor) -> Stepped {
     let stepped = |code, piece: Option<(u32, u32)>, cursor| Stepped {
         code,
         piece: Some(piece.unwrap_or_default()),

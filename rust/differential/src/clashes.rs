@@ -4,10 +4,11 @@ use gillacorn::ffi;
 use gillacorn::{OMAPTable, Sources};
 
 use crate::gen;
+use crate::operations::{Judge, Op};
 use crate::ours::{both, given};
 use crate::rng::Rng;
 use crate::rules::{self, Answer, OMAP};
-use crate::tally::{Judge, Op, Tally};
+use crate::tally::Tally;
 
 const OPS: [Op; 2] = [Op::Clash, Op::WayBack];
 /// Windows longer than this are only asked where they are refused.

@@ -5,10 +5,11 @@ use gillacorn::SectionTable;
 use oracle::Tables;
 
 use crate::gen;
+use crate::operations::Op;
 use crate::ours::{both, given};
 use crate::rng::Rng;
 use crate::rules::{self, SECTIONS};
-use crate::tally::{Listed, Op, Tally};
+use crate::tally::{Listed, Tally};
 
 /// Every length up to three headers; the most headers, and one more.
 pub fn edges(tally: &mut Tally, rng: &mut Rng) {

@@ -6,10 +6,11 @@ use oracle::Tables;
 
 use crate::case::bits;
 use crate::gen;
+use crate::operations::{Judge, Op};
 use crate::ours::{both, given};
 use crate::rng::Rng;
 use crate::rules::{Answer, SECTIONS};
-use crate::tally::{Judge, Listed, Op, Tally};
+use crate::tally::{Listed, Tally};
 
 const OPS: [Op; 4] = [Op::Header, Op::Name, Op::Flags, Op::Alignment];
 
@@ -109,7 +110,7 @@ fn headers(tally: &mut Tally, table: &[u8], places: &[usize]) {
         };
         let raw = ffi::header(table, place);
         let ours = both(
-            given(raw.code, raw.header),
+            given(raw.code, raw.header.into()),
             SectionTable::new(table).header(place),
         );
         tally.check(Op::Header, judge, &expected, &ours, |case| {

@@ -1,11 +1,14 @@
 //! Frame data: the old FPO records and the new ones, as one table.
 
-use std::fmt;
+use core::fmt;
+use core::iter::FusedIterator;
 
+use crate::addresses::PdbInternalRva;
 pub use crate::ffi::FrameCursor;
 use crate::ffi::{self, Frame, Frames};
-use crate::refusal::{answer, value, Refusal, Result};
-use crate::PdbInternalRva;
+use crate::hex::hex_number;
+use crate::refusal::{answer, value, Result};
+use crate::walk::Walk;
 
 /// A compiler specific frame type.
 #[derive(Clone, Copy, Debug, Eq, Hash, Ord, PartialEq, PartialOrd)]
@@ -39,8 +42,13 @@ impl fmt::Display for FrameType {
 }
 
 /// A reference to a string in the string table of the PDB.
-#[derive(Clone, Copy, Debug, Default, Eq, Hash, Ord, PartialEq, PartialOrd)]
-pub struct StringRef(pub u32);
+#[derive(Clone, Copy, Default, Eq, Hash, Ord, PartialEq, PartialOrd)]
+pub struct StringRef(
+    /// The offset of its first character.
+    pub u32,
+);
+
+hex_number!(StringRef);
 
 /// Frame data for a code block.
 #[derive(Clone, Copy, Debug, Eq, Hash, PartialEq)]
@@ -74,6 +82,7 @@ pub struct FrameData {
 }
 
 impl From<Frame> for FrameData {
+    #[inline]
     fn from(frame: Frame) -> Self {
         FrameData {
             ty: match frame.ty {
@@ -100,23 +109,11 @@ impl From<Frame> for FrameData {
     }
 }
 
-/// An iterator whose steps may be refused: the part of the crate `fallible-iterator`, which pdb
-/// uses, that walks on frames need.
-pub trait FallibleIterator {
-    /// What is given.
-    type Item;
-    /// What a step is refused with.
-    type Error;
-
-    /// The next item, none at the end, or a refusal.
-    fn next(&mut self) -> std::result::Result<Option<Self::Item>, Self::Error>;
-}
-
 /// Describes stack frame layout of functions: a table of old frames (16 bytes each) and one of new
 /// frames (32 bytes each), either of which may be absent.
 ///
 /// ```
-/// use gillacorn::{FallibleIterator, FrameTable, FrameType, PdbInternalRva, Refusal};
+/// use gillacorn::{FrameTable, FrameType, PdbInternalRva, Refusal};
 ///
 /// let mut old = [0; 16];
 /// old[..2].copy_from_slice(&0x180u16.to_le_bytes());
@@ -126,20 +123,25 @@ pub trait FallibleIterator {
 /// new[32..34].copy_from_slice(&0x200u16.to_le_bytes());
 /// let table = FrameTable::new(Some(&old), Some(&new));
 ///
-/// let mut frames = table.iter();
 /// let mut starts = Vec::new();
-/// while let Some(frame) = frames.next()? {
+/// for frame in table.iter() {
+///     let frame = frame?;
 ///     starts.push((frame.code_start.0, frame.ty));
 /// }
 /// let (std, fdata) = (FrameType::Standard, FrameType::FrameData);
 /// assert_eq!(starts, [(0x100, fdata), (0x180, std), (0x200, fdata)]);
 /// assert_eq!(std.to_string(), "std");
 ///
-/// let first = table.iter_at_rva(PdbInternalRva(0x181))?.next()?;
+/// let first = table.iter_at_rva(PdbInternalRva(0x181)).next().transpose()?;
 /// assert_eq!(first.unwrap().code_start, PdbInternalRva(0x200));
+///
+/// // A refusal is the last item.
+/// let mut frames = FrameTable::new(Some(&old[1..]), None).iter();
+/// assert_eq!(frames.next(), Some(Err(Refusal::Length)));
+/// assert_eq!(frames.next(), None);
 /// # Ok::<(), Refusal>(())
 /// ```
-#[derive(Clone, Copy, Debug, Default)]
+#[derive(Clone, Copy, Debug, Default, Eq, Hash, PartialEq)]
 pub struct FrameTable<'t> {
     old: Option<&'t [u8]>,
     new: Option<&'t [u8]>,
@@ -147,48 +149,61 @@ pub struct FrameTable<'t> {
 
 impl<'t> FrameTable<'t> {
     /// A table over the given bytes. Each question checks them.
+    #[inline]
     pub fn new(old: Option<&'t [u8]>, new: Option<&'t [u8]>) -> Self {
         FrameTable { old, new }
     }
 
-    /// Returns an iterator over all frame data in this table, ordered by code start.
+    /// Returns an iterator over all frame data in this table, ordered by code start. Refusals 1
+    /// and 2, of the old frames first, and 4 in the place of its frame.
+    #[inline]
     pub fn iter(&self) -> FrameDataIter<'t> {
         self.iter_at(FrameCursor::default())
     }
 
     /// Returns an iterator over frame data starting at the given address: at the frame that covers
-    /// it, else at the first one after it. Refusals 1, 2 and 3, of the old frames first.
-    pub fn iter_at_rva(&self, rva: PdbInternalRva) -> Result<FrameDataIter<'t>> {
+    /// it, else at the first one after it. Refusals 1, 2 and 3, of the old frames first, are its
+    /// first item.
+    #[inline]
+    pub fn iter_at_rva(&self, rva: PdbInternalRva) -> FrameDataIter<'t> {
         let given = ffi::frames_at(rva.0, &self.lent());
-        value(given.code, 0, given.cursor).map(|cursor| self.iter_at(cursor))
+        FrameDataIter {
+            table: *self,
+            walk: Walk::new(value(given.code, 0, given.cursor)),
+        }
     }
 
     /// Returns an iterator that goes on at any cursor.
+    #[inline]
     pub fn iter_at(&self, cursor: FrameCursor) -> FrameDataIter<'t> {
         FrameDataIter {
             table: *self,
-            cursor,
+            walk: Walk::new(Ok(cursor)),
         }
     }
 
     /// Indicates whether any frame data is available. Refusals 1 and 2, of the old frames first.
+    #[inline]
     pub fn is_empty(&self) -> Result<bool> {
         let given = ffi::frames_empty(&self.lent());
         value(given.code, 0, given.value == 1)
     }
 
     /// The frame at a place of the old table, or none past the last. Refusals 1, 2 and 4.
+    #[inline]
     pub fn old_frame(&self, place: usize) -> Result<Option<FrameData>> {
         let given = ffi::old_frame(self.old.unwrap_or(&[]), place);
         answer(given.code, 0, given.frame.into())
     }
 
     /// The frame at a place of the new table, or none past the last. Refusals 1 and 2.
+    #[inline]
     pub fn new_frame(&self, place: usize) -> Result<Option<FrameData>> {
         let given = ffi::new_frame(self.new.unwrap_or(&[]), place);
         answer(given.code, 0, given.frame.into())
     }
 
+    #[inline]
     fn lent(&self) -> Frames<'t> {
         Frames {
             old: self.old.into(),
@@ -197,27 +212,34 @@ impl<'t> FrameTable<'t> {
     }
 }
 
-/// Iterator over entries in a [`FrameTable`]. A refused step leaves it where it is.
+/// Iterator over entries in a [`FrameTable`]. A refusal is its last item, also that of its start.
 #[derive(Clone, Debug, Default)]
+#[must_use = "a refusal is told as an item"]
 pub struct FrameDataIter<'t> {
     table: FrameTable<'t>,
-    cursor: FrameCursor,
+    walk: Walk<FrameCursor>,
 }
 
 impl FrameDataIter<'_> {
-    /// Where the iterator stands.
-    pub fn cursor(&self) -> FrameCursor {
-        self.cursor
+    /// Where the iterator stands, or what it was refused with.
+    #[inline]
+    pub fn cursor(&self) -> Result<FrameCursor> {
+        self.walk.place()
     }
 }
 
-impl FallibleIterator for FrameDataIter<'_> {
-    type Item = FrameData;
-    type Error = Refusal;
+impl Iterator for FrameDataIter<'_> {
+    type Item = Result<FrameData>;
 
-    fn next(&mut self) -> Result<Option<FrameData>> {
-        let given = ffi::frame_next(self.cursor, &self.table.lent());
-        self.cursor = given.cursor;
-        answer(given.code, 0, given.frame.into())
+    #[inline]
+    fn next(&mut self) -> Option<Self::Item> {
+        let table = self.table;
+        self.walk.next(|cursor| {
+            let given = ffi::frame_next(cursor, &table.lent());
+            let frame = answer(given.code, 0, given.frame)?;
+            Ok((frame.map(FrameData::from), given.cursor))
+        })
     }
 }
+
+impl FusedIterator for FrameDataIter<'_> {}

@@ -4,18 +4,19 @@ use gillacorn::ffi::{self, Lent, Piece};
 use gillacorn::{OMAPTable, RangeIter, Refusal};
 
 use crate::gen;
-use crate::omap::{window, Asked, Output};
+use crate::judged::{JudgedTable, Output};
+use crate::operations::Op;
 use crate::ours::code_if;
 use crate::rng::Rng;
 use crate::rules::{self, OMAP};
-use crate::tally::{Op, Tally};
+use crate::tally::Tally;
 
 const OPS: [Op; 2] = [Op::List, Op::RangeIter];
 
 pub fn run(tally: &mut Tally, rng: &mut Rng, want: u64) {
     for records in [OMAP.most, OMAP.most + 1] {
         let table = gen::large(OMAP, records);
-        let asked = Asked::new(Some(&table[..]).into());
+        let asked = JudgedTable::new(Some(&table[..]).into());
         let need = asked.pieces(1, u32::MAX).map_or(0, |pieces| pieces.len());
         list(tally, &asked, 1, u32::MAX, need);
         list(tally, &asked, 1, u32::MAX, need.saturating_sub(1));
@@ -25,9 +26,9 @@ pub fn run(tally: &mut Tally, rng: &mut Rng, want: u64) {
         let table = gen::omap(rng);
         let bytes: &[u8] = &gen::maybe_damaged(rng, table, OMAP);
         let present = !rng.one_in(12);
-        let asked = Asked::new(Lent { present, bytes });
+        let asked = JudgedTable::new(Lent { present, bytes });
         for _ in 0..10 {
-            let (a, b) = window(rng, bytes);
+            let (a, b) = asked.some_window(rng);
             let need = asked.pieces(a, b).map_or(1, |pieces| pieces.len());
             for records in [need.saturating_sub(1), need, need + 1, rng.below(need + 4)] {
                 list(tally, &asked, a, b, records);
@@ -37,7 +38,7 @@ pub fn run(tally: &mut Tally, rng: &mut Rng, want: u64) {
     }
 }
 
-fn list(tally: &mut Tally, asked: &Asked<'_>, a: u32, b: u32, records: usize) {
+fn list(tally: &mut Tally, asked: &JudgedTable<'_>, a: u32, b: u32, records: usize) {
     let (rule, rust) = asked.judged(a, b, records, 2 * records);
     let called = |call: &mut dyn FnMut(&mut [Piece]) -> (u32, usize)| {
         let mut output = Output::new(2 * records);
@@ -66,7 +67,7 @@ fn list(tally: &mut Tally, asked: &Asked<'_>, a: u32, b: u32, records: usize) {
     if let Some(table) = asked.table {
         let wrapped = called(&mut |list| match OMAPTable::new(table).list(a..b, list) {
             Ok(pieces) => (0, pieces),
-            Err(Refusal::Room { needed }) => (5, needed),
+            Err(Refusal::Short { needed }) => (5, needed),
             Err(refusal) => (refusal.number(), 0),
         });
         ours.code = code_if(ours == wrapped, ours.code);
@@ -80,7 +81,7 @@ fn list(tally: &mut Tally, asked: &Asked<'_>, a: u32, b: u32, records: usize) {
 }
 
 /// The wrapper's iterator gives the pieces up to the first that is refused, and then that refusal.
-fn iterate(tally: &mut Tally, asked: &Asked<'_>, a: u32, b: u32) {
+fn iterate(tally: &mut Tally, asked: &JudgedTable<'_>, a: u32, b: u32) {
     let mut rule = Pieces::default();
     match rules::start(asked.table, a, b) {
         Err(number) => rule.refused = number,
@@ -106,17 +107,20 @@ fn iterate(tally: &mut Tally, asked: &Asked<'_>, a: u32, b: u32) {
         }
     });
     let mut ours = Pieces::default();
-    let started = match asked.table {
+    let mut ranges = match asked.table {
         Some(table) => OMAPTable::new(table).lookup_range(a..b),
         None => RangeIter::identity(a..b),
     };
-    match started {
-        Err(refusal) => ours.refused = refusal.number(),
-        Ok(ranges) => ranges.for_each(|range| match range {
+    for range in &mut ranges {
+        match range {
             Ok(range) => ours.pieces.push((range.start, range.end)),
             Err(refusal) => ours.refused = refusal.number(),
-        }),
+        }
     }
+    // After a refusal, as after the end, there is nothing; and the place tells the refusal.
+    let refused = ranges.cursor().err().map_or(0, Refusal::number);
+    let over = ranges.next().is_none() && refused == ours.refused;
+    ours.refused = code_if(over, ours.refused);
     tally.judge(Op::RangeIter, rule, rust, ours, |case| {
         case.lent("table", asked.lent).number("a", a).number("b", b);
     });

@@ -1,10 +1,10 @@
 //! Clashes and the way back: what pdb lacks.
 
-use std::ops::Range;
+use core::ops::Range;
 
 use crate::ffi;
+use crate::lookups::OMAPTable;
 use crate::refusal::{answer, Result};
-use crate::OMAPTable;
 
 /// The addresses of a window that share a translation.
 #[derive(Clone, Copy, Debug, Eq, Hash, PartialEq)]
@@ -35,12 +35,14 @@ pub enum Sources {
 impl OMAPTable<'_> {
     /// The least pair of window addresses with one translation, or none where the window is
     /// single. Refusals 1, 2, 3 and 4.
+    #[inline]
     pub fn clash(self, range: Range<u32>) -> Result<Option<(u32, u32)>> {
         let given = ffi::clash(self.0, range.start, range.end);
         answer(given.code, 0, (given.first, given.second))
     }
 
     /// The addresses of the window that translate to `target`. Refusals 1, 2, 3 and 4.
+    #[inline]
     pub fn way_back(self, range: Range<u32>, target: u32) -> Result<Sources> {
         let given = ffi::way_back(self.0, range.start, range.end, target);
         let sources = match given.sources {

@@ -1,0 +1,55 @@
+//! The words of the command line: one module each, and a line in the list.
+
+mod back;
+mod clash;
+mod draw;
+mod frames;
+mod sections;
+mod window;
+
+use clap::{Arg, ArgAction, ArgMatches, Command};
+
+use crate::answer::Answered;
+use crate::arguments::JSON;
+
+/// A word: what it takes, and what it does.
+type Word = (fn() -> Command, fn(&ArgMatches) -> Answered);
+
+const WORDS: [Word; 6] = [
+    (draw::command, draw::run),
+    (window::command, window::run),
+    (clash::command, clash::run),
+    (back::command, back::run),
+    (sections::command, sections::run),
+    (frames::command, frames::run),
+];
+
+const AFTER: &str = "\
+Addresses are hexadecimal, with or without 0x; a window A..B leaves B out.
+Refusals stand on standard error as `refused N: sentence`.
+Exit status: 0 an answer; 1 a refusal or a clash; 2 bad words, an address
+outside A..B, or input or output that failed.";
+
+pub fn command() -> Command {
+    let json = Arg::new(JSON)
+        .long(JSON)
+        .global(true)
+        .action(ArgAction::SetTrue)
+        .help("Answer with one JSON object; numbers are decimal");
+    Command::new("gillacorn")
+        .version(env!("CARGO_PKG_VERSION"))
+        .about("Address translation that is proved: a value, a hole, or a numbered refusal")
+        .after_help(AFTER)
+        .subcommand_required(true)
+        .arg(json)
+        .subcommands(WORDS.iter().map(|(command, _)| command()))
+}
+
+pub fn run(matches: &ArgMatches) -> Answered {
+    let (name, matches) = matches.subcommand().expect("a word is required");
+    let word = WORDS
+        .iter()
+        .find(|(command, _)| command().get_name() == name);
+    let (_, run) = word.expect("clap knows no other word");
+    run(matches)
+}
