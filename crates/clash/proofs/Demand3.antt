@@ -9,10 +9,10 @@ use mathlib.Core.List.{List}
 use mathlib.Core.Option.{Option, none, some}
 use Rattle.lent.specs.Paper.{Told, value, nothing, refused}
 use Rattle.omap.specs.Records.{records, single}
-use Rattle.omap.specs.Lookup.{lookupSpec}
+use Rattle.omap.specs.Lookup.{lookupSpec, valueOf, lookedUp}
 use Rattle.omap.specs.Output.{windowFault}
 use Rattle.clash.specs.Clash.{Pair, one, clashSpec, backSpec}
-use Rattle.clash.specs.Demand.{Source, Clash, LeastClash, valueOf, looked, Reported, Shares, Demand3}
+use Rattle.clash.specs.Demand.{Source, Clash, LeastClash, Reported, Shares, Demand3}
 use Rattle.clash.proofs.Answered as answered
 
 value-is : (o : Told ℕ) (t : ℕ) → valueOf o ≡ some t → o ≡ value t
@@ -25,14 +25,14 @@ module _ (s : List ℕ) (a b : ℕ) (w : b ≤ 4294967295) (good : windowFault t
   abbrev f : ℕ → Option ℕ
   f = single (records s)
 
-  lands : (t x : ℕ) → Source (looked s) a b t x → Source f a b t x
+  lands : (t x : ℕ) → Source (lookedUp true s) a b t x → Source f a b t x
   lands t x v = answered.lookup-told s a b good t x (v .from) (v .below) (value-is (lookupSpec true s x) t (v .lands))
 
-  tells : (t x : ℕ) → Source f a b t x → Source (looked s) a b t x
+  tells : (t x : ℕ) → Source f a b t x → Source (lookedUp true s) a b t x
   tells t x v = record { from = v .from; below = v .below; lands = ap valueOf (answered.lookup-tells s a b good w t x v) }
 
   module _ (x y : ℕ) where
-    shared : Clash (looked s) a b x y → Clash f a b x y
+    shared : Clash (lookedUp true s) a b x y → Clash f a b x y
     shared c =
         let l : x < y = c .apart in
         let m : y < b = c .below in
@@ -41,7 +41,7 @@ module _ (s : List ℕ) (a b : ℕ) (w : b ≤ 4294967295) (good : windowFault t
         let u = lands (c .target) y (record { from = omega arith; below = m; lands = c .second }) in
         record { from = k; apart = l; below = m; target = c .target; first = v .lands; second = u .lands }
 
-    sharing : Clash f a b x y → Clash (looked s) a b x y
+    sharing : Clash f a b x y → Clash (lookedUp true s) a b x y
     sharing c =
         let l : x < y = c .apart in
         let m : y < b = c .below in

@@ -5,8 +5,8 @@ use mathlib.Core.Bool.{true}
 use mathlib.Core.List.{List}
 use mathlib.Core.Option.{Option, none, some}
 use Prim.Native.Nat.{ℕ, _≤_, _<_}
-use Rattle.lent.specs.Paper.{Told, value, nothing, refused}
-use Rattle.omap.specs.Lookup.{lookupSpec}
+use Rattle.lent.specs.Paper.{value, nothing}
+use Rattle.omap.specs.Lookup.{lookedUp}
 use Rattle.clash.specs.Clash.{Pair, one, clashSpec, backSpec}
 
 -- x is an address of the window that lands on t
@@ -41,15 +41,6 @@ pub record TwoSources (f : ℕ → Option ℕ) (a b t x y : ℕ) : Type 0 where
   pub apart : x < y
   pub least : (v : ℕ) → Source f a b t v → (v ≡ x) ⊎ (y ≤ v)
 
-abbrev pub valueOf : Told ℕ → Option ℕ
-valueOf (value t) = some t
-valueOf nothing = none
-valueOf (refused n) = none
-
--- where the single lookup takes an address: none where it answers with a hole or a refusal
-abbrev pub looked : List ℕ → ℕ → Option ℕ
-looked s x = valueOf (lookupSpec true s x)
-
 -- the check reports a clash
 pub record Reported (s : List ℕ) (a b : ℕ) : Type 0 where
   pub pair : Pair
@@ -59,15 +50,15 @@ pub record Reported (s : List ℕ) (a b : ℕ) : Type 0 where
 pub record Shares (s : List ℕ) (a b : ℕ) : Type 0 where
   pub first : ℕ
   pub second : ℕ
-  pub clash : Clash (looked s) a b first second
+  pub clash : Clash (lookedUp true s) a b first second
 
 -- Demand 3, of the clash check, the way back and the single lookup
 pub record Demand3 (s : List ℕ) (a b : ℕ) : Type 0 where
   -- a clash is reported exactly if two different addresses of the window share a translation, and the pair is the least
   pub reports : Shares s a b → Reported s a b
-  pub reported : (r : Reported s a b) → LeastClash (looked s) a b (r .pair)
+  pub reported : (r : Reported s a b) → LeastClash (lookedUp true s) a b (r .pair)
   -- there is no other answer than a clash and "single"
   pub otherwise : (Reported s a b → ⊥) → clashSpec s a b ≡ value none
   -- where the window is single, going back yields the one source, or none exactly if no address lands there
-  pub source : clashSpec s a b ≡ value none → (t x : ℕ) → Source (looked s) a b t x → backSpec s a b t ≡ value (one x)
-  pub no-source : clashSpec s a b ≡ value none → (t : ℕ) → ((x : ℕ) → Source (looked s) a b t x → ⊥) → backSpec s a b t ≡ nothing
+  pub source : clashSpec s a b ≡ value none → (t x : ℕ) → Source (lookedUp true s) a b t x → backSpec s a b t ≡ value (one x)
+  pub no-source : clashSpec s a b ≡ value none → (t : ℕ) → ((x : ℕ) → Source (lookedUp true s) a b t x → ⊥) → backSpec s a b t ≡ nothing

@@ -6,6 +6,7 @@ pub mod Counting
 pub mod Filling
 pub mod Outputs
 pub mod Expansion
+pub mod Demand2
 pub mod Turns
 pub mod Starts
 pub mod Coming

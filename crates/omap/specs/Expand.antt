@@ -28,3 +28,10 @@ expand (p ∷ l) = upFrom (p .to) (p .size) ++ expand l
 unfoldable pub total : List Piece → ℕ
 total [] = 0
 total (p ∷ l) = p .size + total l
+
+-- the first n entries of a window's output, start and excluded end, written out address by address
+unfoldable pub expandEntries : ℕ → List ℕ → List ℕ
+expandEntries (suc n) (start ∷ (end ∷ l)) = upFrom start (end - start) ++ expandEntries n l
+expandEntries (suc n) (start ∷ []) = []
+expandEntries (suc n) [] = []
+expandEntries zero l = []

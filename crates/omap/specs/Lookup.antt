@@ -32,3 +32,12 @@ toldLooked looked.TooLarge = refused 4
 -- the single translation: 1, 2, 3, none or 4; with no table, the address itself
 unfoldable pub lookupSpec : Bool → List ℕ → ℕ → Told ℕ
 lookupSpec present s a = cond present (unless (omapFault s) (fitted (single (records s) a))) (value a)
+
+-- where the single lookup takes an address: none where it answers with a hole or a refusal
+abbrev pub valueOf : Told ℕ → Option ℕ
+valueOf (value t) = some t
+valueOf nothing = none
+valueOf (refused n) = none
+
+abbrev pub lookedUp : Bool → List ℕ → ℕ → Option ℕ
+lookedUp present s x = valueOf (lookupSpec present s x)

@@ -73,17 +73,17 @@ module _ (c : tie.After-chosen2 Inv-loop μ-loop) where
   abbrev start : tie.Start Inv-loop μ-loop
   start = l .before .before .before
 
-  next : Halving (w l) (s l) (start .args .address) (c .before .chosen .result) (c .chosen2 .result) × (c .chosen2 .result - c .before .chosen .result < hi l - lo l)
-  next =
+  loop-next : Halving (w l) (s l) (start .args .address) (c .before .chosen .result) (c .chosen2 .result) × (c .chosen2 .result - c .before .chosen .result < hi l - lo l)
+  loop-next =
       halving-next (w l) (s l) (start .args .address) (lo l) (hi l) (l .before .loop .inv) (start .pre .1) (omega (arith, l))
       (leb (c .before .before .u32-at .result) (start .args .address)) (ap (λ (k : ℕ). leb k (start .args .address)) (c .before .before .u32-at .ensures))
       (c .before .chosen .result) (c .chosen2 .result) (c .before .chosen .ensures) (c .chosen2 .ensures)
 
 loop-less : tie.Need-loop-less Inv-loop μ-loop
-loop-less c = next c .1
+loop-less c = loop-next c .1
 
 loop-again : tie.Need-loop-again Inv-loop μ-loop
-loop-again c = next c .0
+loop-again c = loop-next c .0
 
 returns : tie.Need-returns Inv-loop μ-loop
 returns c =
