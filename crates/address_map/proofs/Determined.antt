@@ -6,7 +6,7 @@ use mathlib.Core.Bool.{cond}
 use lib.Dec.{eqb}
 use Rattle.lent.specs.Paper.{Told, value, nothing, refused}
 use Rattle.lent.specs.declared.Refusal.the-variants.{Length, Count, Order}
-use Rattle.omap.proofs.Determined.{refusal, one-answer}
+use Rattle.lent.proofs.Answers.{refusal, one-answer}
 use Rattle.address_map.specs.Sections.{Offset, toldLocated}
 use Rattle.address_map.specs.Answers.{toldRva, toldInternalRva, toldOffset, toldInternalOffset}
 use Rattle.address_map.specs.declared.sections.Located.{Located}

@@ -3,6 +3,7 @@ use Prim.Native.Nat.{ℕ, _-_, _^_, _/_, _%_}
 use mathlib.Core.Bool.{Bool, cond, _&&_}
 use lib.Dec.{leb, eqb}
 use Rattle.lent.specs.Paper.{Told, value, nothing}
+use Rattle.lent.specs.Words.{isSet}
 use Rattle.pe.specs.declared.characteristics.Alignment.{Alignment}
 use Rattle.pe.specs.declared.characteristics.Alignment.the-variants as alignment
 
@@ -52,10 +53,6 @@ bit «IMAGE_SCN_MEM_SHARED» = 0x10000000
 bit «IMAGE_SCN_MEM_EXECUTE» = 0x20000000
 bit «IMAGE_SCN_MEM_READ» = 0x40000000
 bit «IMAGE_SCN_MEM_WRITE» = 0x80000000
-
--- the bit that the number b has alone is set in x
-abbrev pub isSet : ℕ → ℕ → Bool
-isSet b x = eqb (x / b % 2) 1
 
 -- a flag is set in the characteristics x
 abbrev pub has : Flag → ℕ → Bool

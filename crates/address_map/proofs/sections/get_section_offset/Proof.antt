@@ -7,7 +7,7 @@ use mathlib.Core.Option.{none}
 use denote.Ref.{now}
 use borrow.Author.Needs.{needs}
 use Rattle.lent.specs.Paper.{number, toldChecked}
-use Rattle.lent.specs.Table.{sectionShape}
+use Rattle.lent.specs.Table.{sectionTable, sectionShape}
 use Rattle.lent.proofs.Shaped.{at-most}
 use Rattle.address_map.specs.Sections.{sectionSpec, walk}
 use Rattle.address_map.proofs.Walks.{rest, walk-end, walk-later, walk-here, walk-on, section-refused, section-good}
@@ -41,7 +41,7 @@ good c = sym (ap toldChecked (c .enum-told .given .1)) ∙ c .before .before .se
 loop-holds : tie.Need-loop-holds Inv-loop μ-loop
 loop-holds c =
     let a = c .before .before .before .before .args in
-    (omega arith, (at-most 40 65535 (now (a .sections)) (good c), section-good (now (a .sections)) (a .address) (good c)))
+    (omega arith, (at-most sectionTable (now (a .sections)) (good c), section-good (now (a .sections)) (a .address) (good c)))
 
 virtual-address-at-requires : tie.Need-virtual-address-at-requires Inv-loop μ-loop
 virtual-address-at-requires c κs = omega arith
