@@ -1,7 +1,8 @@
 // The paths of more than one step, and the sections of the actual side.
 ghost use mathlib.Core.Path.{_≡_};
-ghost use Rattle.omap.specs.Lookup.{toldLooked};
-ghost use Rattle.address_map.specs.Sections.{toldLocated};
+ghost use Rattle.lent.specs.Paper.{andThen};
+ghost use Rattle.omap.specs.Lookup.{toldLooked, lookupSpec};
+ghost use Rattle.address_map.specs.Sections.{inSection, sectionSpec, toldLocated};
 ghost use Rattle.address_map.specs.Paths.{actual, crossLocate, placeCross, placeCrossLocate};
 use crate::sections::Located;
 use crate::sections::get_section_offset;
@@ -23,11 +24,22 @@ pub fn actual_sections<'s>(
     lent::if_present(has_original, original)
 }
 
-// Through the OMAP, then to a section.
-pub fn cross_locate(present: bool, omap: &[u8], sections: &[u8], address: u32) -> Located
-    ensures { λ r. ⌜ toldLocated r ≡ crossLocate present (now (omap .entry)) (now (sections .entry)) address ⌝ }
+// The step through the OMAP, after the step that gave an address.
+fn cross(placed: Looked, present: bool, omap: &[u8]) -> Looked
+    ensures { λ r. ⌜ toldLooked r ≡ andThen (toldLooked placed) (lookupSpec present (now (omap .entry))) ⌝ }
 {
-    let crossed = omap::lookup(present, omap, address);
+    match placed {
+        Looked::At(a) => omap::lookup(present, omap, a),
+        Looked::Nothing => Looked::Nothing,
+        Looked::Refused(why) => Looked::Refused(why),
+        Looked::TooLarge => Looked::TooLarge,
+    }
+}
+
+// The step to a section, after the step that gave an address.
+fn locate(crossed: Looked, sections: &[u8]) -> Located
+    ensures { λ r. ⌜ toldLocated r ≡ andThen (toldLooked crossed) (sectionSpec (now (sections .entry))) ⌝ }
+{
     match crossed {
         Looked::At(a) => get_section_offset(sections, a),
         Looked::Nothing => Located::Nothing,
@@ -36,17 +48,22 @@ pub fn cross_locate(present: bool, omap: &[u8], sections: &[u8], address: u32) -
     }
 }
 
+// Through the OMAP, then to a section.
+pub fn cross_locate(present: bool, omap: &[u8], sections: &[u8], address: u32) -> Located
+    ensures { λ r. ⌜ toldLocated r ≡ crossLocate present (now (omap .entry)) (now (sections .entry)) address ⌝ }
+{
+    locate(omap::lookup(present, omap, address), sections)
+}
+
 // From a section, then through the OMAP.
 pub fn place_cross(sections: &[u8], present: bool, omap: &[u8], section: u16, offset: u32) -> Looked
-    ensures { λ r. ⌜ toldLooked r ≡ placeCross (now (sections .entry)) present (now (omap .entry)) (record { section = section; offset = offset }) ⌝ }
+    ensures { λ r. ⌜ toldLooked r ≡ placeCross (now (sections .entry)) present (now (omap .entry)) (inSection section offset) ⌝ }
 {
-    let placed = get_virtual_address(sections, section, offset);
-    match placed {
-        Looked::At(a) => omap::lookup(present, omap, a),
-        Looked::Nothing => Looked::Nothing,
-        Looked::Refused(why) => Looked::Refused(why),
-        Looked::TooLarge => Looked::TooLarge,
-    }
+    cross(
+        get_virtual_address(sections, section, offset),
+        present,
+        omap,
+    )
 }
 
 // From a section, through the OMAP, to a section of the other side.
@@ -58,13 +75,7 @@ pub fn place_cross_locate(
     section: u16,
     offset: u32,
 ) -> Located
-    ensures { λ r. ⌜ toldLocated r ≡ placeCrossLocate (now (from .entry)) present (now (omap .entry)) (now (to .entry)) (record { section = section; offset = offset }) ⌝ }
+    ensures { λ r. ⌜ toldLocated r ≡ placeCrossLocate (now (from .entry)) present (now (omap .entry)) (now (to .entry)) (inSection section offset) ⌝ }
 {
-    let crossed = place_cross(from, present, omap, section, offset);
-    match crossed {
-        Looked::At(a) => get_section_offset(to, a),
-        Looked::Nothing => Located::Nothing,
-        Looked::Refused(why) => Located::Refused(why),
-        Looked::TooLarge => Located::TooLarge,
-    }
+    locate(place_cross(from, present, omap, section, offset), to)
 }
