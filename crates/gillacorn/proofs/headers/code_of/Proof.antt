@@ -17,8 +17,8 @@ enum-told-2 c = search needs
 enum-known-given : tie.Need-enum-known-given
 enum-known-given c = search needs
 
-number-of-requires : tie.Need-number-of-requires
-number-of-requires c κs = search needs
+refusal-number-requires : tie.Need-refusal-number-requires
+refusal-number-requires c κs = search needs
 
 returns : tie.Need-returns
 returns c = λ h. sym (ap (λ (t : Given). codeOf (toldGiven t h)) (c .enum-told .given .1))
@@ -27,7 +27,7 @@ returns-2 : tie.Need-returns-2
 returns-2 c = λ h. sym (ap (λ (t : Given). codeOf (toldGiven t h)) (c .enum-told2 .given .1))
 
 returns-3 : tie.Need-returns-3
-returns-3 c = λ h. c .number-of .ensures ∙ sym (ap (λ (t : Given). codeOf (toldGiven t h)) (c .before .before .given .given .1))
+returns-3 c = λ h. c .refusal-number .ensures ∙ sym (ap (λ (t : Given). codeOf (toldGiven t h)) (c .before .before .given .given .1))
 
 pub code-of-spec : {M : Type 1} → statement M
 code-of-spec =
@@ -36,7 +36,7 @@ code-of-spec =
     enum-told
     enum-told-2
     enum-known-given
-    number-of-requires
+    refusal-number-requires
     returns
     returns-2
     returns-3)

@@ -2,7 +2,7 @@
 use Prim.Native.Nat.{ℕ}
 use Rattle.lent.specs.Paper.{Told, value, nothing, refused}
 use Rattle.address_map.specs.Sections.{Offset}
-use Rattle.gillacorn.specs.declared.addresses.OffsetAnswer.{OffsetAnswer}
+use Rattle.gillacorn.specs.declared.sections.OffsetAnswer.{OffsetAnswer}
 
 abbrev pub offsetAnswer : Told Offset → OffsetAnswer
 offsetAnswer (value x) = record { code = 0; section = x .section; offset = x .offset }
