@@ -44,7 +44,7 @@ flags =
 pub one-bit-each : map bit flags ≡ map (λ (k : ℕ). 2 ^ k) (3 ∷ 5 ∷ 6 ∷ 7 ∷ 8 ∷ 9 ∷ 11 ∷ 12 ∷ 14 ∷ 15 ∷ 17 ∷ 18 ∷ 19 ∷ 24 ∷ 25 ∷ 26 ∷ 27 ∷ 28 ∷ 29 ∷ 30 ∷ 31 ∷ [])
 one-bit-each = refl
 
--- the PE format's alignments, IMAGE_SCN_ALIGN_1BYTES to IMAGE_SCN_ALIGN_8192BYTES
+-- winnt.h's alignments, IMAGE_SCN_ALIGN_1BYTES to IMAGE_SCN_ALIGN_8192BYTES
 pub alignments : map alignmentSpec
     (0x00100000 ∷ 0x00200000 ∷ 0x00300000 ∷ 0x00400000 ∷ 0x00500000 ∷ 0x00600000 ∷ 0x00700000
     ∷ 0x00800000 ∷ 0x00900000 ∷ 0x00A00000 ∷ 0x00B00000 ∷ 0x00C00000 ∷ 0x00D00000 ∷ 0x00E00000 ∷ [])

@@ -55,7 +55,7 @@ const IMAGE_SCN_MEM_WRITE: u32 = 0x80000000;
 // The lowest of the four bits that hold the alignment.
 const IMAGE_SCN_ALIGN_1BYTES: u32 = 0x00100000;
 
-// The flags of a section header, which the PE format defines as `IMAGE_SCN_` constants.
+// The flags of a section header, which winnt.h defines as `IMAGE_SCN_` constants.
 #[repr(C)]
 pub struct SectionCharacteristics(pub u32);
 
