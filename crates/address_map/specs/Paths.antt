@@ -14,7 +14,7 @@
 use Prim.Native.Nat.{ℕ}
 use mathlib.Core.Bool.{Bool, cond}
 use mathlib.Core.List.{List}
-use Rattle.lent.specs.Paper.{Told, value, nothing, refused, andThen, number}
+use Rattle.lent.specs.Paper.{Told, value, andThen}
 use Rattle.lent.specs.Table.{ifPresent}
 use Rattle.omap.specs.Lookup.{lookupSpec}
 use Rattle.address_map.specs.Sections.{Offset, sectionSpec, addressSpec}
@@ -31,10 +31,7 @@ crossLocate present omap sections a = andThen (lookupSpec present omap a) (secti
 unfoldable pub placeCross : List ℕ → Bool → List ℕ → Offset → Told ℕ
 placeCross sections present omap x = andThen (addressSpec sections x) (lookupSpec present omap)
 
--- place, cross, locate
-unfoldable pub placeCrossLocate : List ℕ → Bool → List ℕ → List ℕ → Offset → Told Offset
-placeCrossLocate from present omap to x = andThen (placeCross from present omap x) (sectionSpec to)
-
--- with no transformed sections, the input
-abbrev pub ifTransformed : Bool → Told Offset → Offset → Told Offset
-ifTransformed hasTransformed path x = cond hasTransformed path (value x)
+-- place, cross, locate; with no transformed sections, the input
+unfoldable pub placeCrossLocate : Bool → List ℕ → Bool → List ℕ → List ℕ → Offset → Told Offset
+placeCrossLocate hasTransformed from present omap to x =
+    cond hasTransformed (andThen (placeCross from present omap x) (sectionSpec to)) (value x)

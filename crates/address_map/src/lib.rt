@@ -4,7 +4,7 @@ ghost use mathlib.Core.Path.{_≡_};
 ghost use Rattle.lent.specs.Table.{ifPresent};
 ghost use Rattle.omap.specs.Lookup.{lookupSpec, toldLooked};
 ghost use Rattle.address_map.specs.Sections.{inSection, sectionSpec, addressSpec, toldLocated};
-ghost use Rattle.address_map.specs.Paths.{actual, crossLocate, placeCross, placeCrossLocate, ifTransformed};
+ghost use Rattle.address_map.specs.Paths.{actual, crossLocate, placeCross, placeCrossLocate};
 
 pub mod paths;
 pub mod sections;
@@ -147,21 +147,18 @@ impl SectionOffset {
         has_to_original: bool,
         to_original: &[u8],
     ) -> Located
-        ensures { λ r. ⌜ toldLocated r ≡ ifTransformed «has_transformed» (placeCrossLocate (now (transformed .entry)) «has_to_original» (now («to_original» .entry)) (ifPresent «has_original» (now (original .entry))) (inSection (self .section) (self .offset))) (inSection (self .section) (self .offset)) ⌝ }
+        ensures { λ r. ⌜ toldLocated r ≡ placeCrossLocate «has_transformed» (now (transformed .entry)) «has_to_original» (now («to_original» .entry)) (ifPresent «has_original» (now (original .entry))) (inSection (self .section) (self .offset)) ⌝ }
     {
-        if has_transformed {
-            let sections = lent::if_present(has_original, original);
-            paths::place_cross_locate(
-                transformed,
-                has_to_original,
-                to_original,
-                sections,
-                self.section,
-                self.offset,
-            )
-        } else {
-            Located::At(self.section, self.offset)
-        }
+        let sections = lent::if_present(has_original, original);
+        paths::place_cross_locate(
+            has_transformed,
+            transformed,
+            has_to_original,
+            to_original,
+            sections,
+            self.section,
+            self.offset,
+        )
     }
 }
 
@@ -204,20 +201,17 @@ impl PdbInternalSectionOffset {
         has_to_transformed: bool,
         to_transformed: &[u8],
     ) -> Located
-        ensures { λ r. ⌜ toldLocated r ≡ ifTransformed «has_transformed» (placeCrossLocate (ifPresent «has_original» (now (original .entry))) «has_to_transformed» (now («to_transformed» .entry)) (now (transformed .entry)) (inSection (self .section) (self .offset))) (inSection (self .section) (self .offset)) ⌝ }
+        ensures { λ r. ⌜ toldLocated r ≡ placeCrossLocate «has_transformed» (ifPresent «has_original» (now (original .entry))) «has_to_transformed» (now («to_transformed» .entry)) (now (transformed .entry)) (inSection (self .section) (self .offset)) ⌝ }
     {
-        if has_transformed {
-            let sections = lent::if_present(has_original, original);
-            paths::place_cross_locate(
-                sections,
-                has_to_transformed,
-                to_transformed,
-                transformed,
-                self.section,
-                self.offset,
-            )
-        } else {
-            Located::At(self.section, self.offset)
-        }
+        let sections = lent::if_present(has_original, original);
+        paths::place_cross_locate(
+            has_transformed,
+            sections,
+            has_to_transformed,
+            to_transformed,
+            transformed,
+            self.section,
+            self.offset,
+        )
     }
 }

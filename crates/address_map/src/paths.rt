@@ -66,8 +66,9 @@ pub fn place_cross(sections: &[u8], present: bool, omap: &[u8], section: u16, of
     )
 }
 
-// From a section, through the OMAP, to a section of the other side.
+// From a section, through the OMAP, to a section of the other side; with no transformed sections, the same.
 pub fn place_cross_locate(
+    has_transformed: bool,
     from: &[u8],
     present: bool,
     omap: &[u8],
@@ -75,7 +76,11 @@ pub fn place_cross_locate(
     section: u16,
     offset: u32,
 ) -> Located
-    ensures { λ r. ⌜ toldLocated r ≡ placeCrossLocate (now (from .entry)) present (now (omap .entry)) (now (to .entry)) (inSection section offset) ⌝ }
+    ensures { λ r. ⌜ toldLocated r ≡ placeCrossLocate «has_transformed» (now (from .entry)) present (now (omap .entry)) (now (to .entry)) (inSection section offset) ⌝ }
 {
-    locate(place_cross(from, present, omap, section, offset), to)
+    if has_transformed {
+        locate(place_cross(from, present, omap, section, offset), to)
+    } else {
+        Located::At(section, offset)
+    }
 }

@@ -4,7 +4,7 @@ ghost use mathlib.Core.Path.{_≡_};
 ghost use Rattle.lent.specs.Table.{ifPresent};
 ghost use Rattle.omap.specs.Lookup.{lookupSpec};
 ghost use Rattle.address_map.specs.Sections.{inSection, sectionSpec, addressSpec};
-ghost use Rattle.address_map.specs.Paths.{actual, crossLocate, placeCross, placeCrossLocate, ifTransformed};
+ghost use Rattle.address_map.specs.Paths.{actual, crossLocate, placeCross, placeCrossLocate};
 ghost use Rattle.gillacorn.specs.Code.{valueOf};
 ghost use Rattle.gillacorn.specs.Sections.{offsetAnswer};
 use crate::code::Value;
@@ -186,7 +186,7 @@ pub extern "C" fn gillacorn_offset_to_internal_offset<'s>(
     has_to_transformed: bool,
     to_transformed: &'s [u8],
 ) -> OffsetAnswer
-    ensures { λ r. ⌜ r ≡ offsetAnswer (ifTransformed «has_transformed» (placeCrossLocate (now (transformed .entry)) «has_to_original» (now («to_original» .entry)) (ifPresent «has_original» (now (original .entry))) (inSection section offset)) (inSection section offset)) ⌝ }
+    ensures { λ r. ⌜ r ≡ offsetAnswer (placeCrossLocate «has_transformed» (now (transformed .entry)) «has_to_original» (now («to_original» .entry)) (ifPresent «has_original» (now (original .entry))) (inSection section offset)) ⌝ }
 {
     offset_of(SectionOffset { offset, section }.to_internal_offset(
         has_original,
@@ -252,7 +252,7 @@ pub extern "C" fn gillacorn_internal_offset_to_section_offset<'s>(
     has_to_transformed: bool,
     to_transformed: &'s [u8],
 ) -> OffsetAnswer
-    ensures { λ r. ⌜ r ≡ offsetAnswer (ifTransformed «has_transformed» (placeCrossLocate (ifPresent «has_original» (now (original .entry))) «has_to_transformed» (now («to_transformed» .entry)) (now (transformed .entry)) (inSection section offset)) (inSection section offset)) ⌝ }
+    ensures { λ r. ⌜ r ≡ offsetAnswer (placeCrossLocate «has_transformed» (ifPresent «has_original» (now (original .entry))) «has_to_transformed» (now («to_transformed» .entry)) (now (transformed .entry)) (inSection section offset)) ⌝ }
 {
     offset_of(PdbInternalSectionOffset { offset, section }.to_section_offset(
         has_original,
