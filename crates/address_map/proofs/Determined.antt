@@ -27,7 +27,8 @@ located-back (located.Refused Count) = refl
 located-back (located.Refused Order) = refl
 located-back located.TooLarge = refl
 
--- where it tells a section and an offset: `get_section_offset`, `cross_locate`, `place_cross_locate` and the conversions to an offset
+-- where a promise tells a section and an offset: `get_section_offset`, `cross_locate`, `place_cross_locate` and the
+-- conversions to an offset
 pub one-located : (t : Told Offset) (r q : Located) → toldLocated r ≡ t → toldLocated q ≡ t → r ≡ q
 one-located = one-answer toldLocated locatedBack located-back
 

@@ -9,8 +9,8 @@
 --
 -- `cross` goes through the OMAP: to-original from the actual side, to-transformed from the internal side. `locate` and
 -- `place` use the sections of their side: for the actual side the transformed ones if they are there, else the original
--- ones. (*) returns its input where there are no transformed sections. A path stops at the first step that gives none or is
--- refused, so a table is checked when the path first reads it.
+-- ones. (*) returns its input where there are no transformed sections. A path stops at the first step that gives none
+-- or is refused, so a table is checked when the path first reads it.
 use Prim.Native.Nat.{ℕ}
 use mathlib.Core.Bool.{Bool, cond}
 use mathlib.Core.List.{List}
@@ -21,7 +21,8 @@ use Rattle.address_map.specs.Sections.{Offset, sectionSpec, addressSpec}
 
 -- the sections of the actual side
 abbrev pub actual : Bool → List ℕ → Bool → List ℕ → List ℕ
-actual hasOriginal original hasTransformed transformed = cond hasTransformed transformed (ifPresent hasOriginal original)
+actual hasOriginal original hasTransformed transformed =
+    cond hasTransformed transformed (ifPresent hasOriginal original)
 
 -- cross, locate
 unfoldable pub crossLocate : Bool → List ℕ → List ℕ → ℕ → Told Offset

@@ -1,5 +1,5 @@
--- Each promise leaves one answer: what is told says which answer it was. (A flag, an address, an extent and a name are promised
--- as they are.)
+-- Each promise leaves one answer: what is told says which answer it was. (A flag, an address, an extent and a name are
+-- promised as they are.)
 -- Assumes nothing.
 use mathlib.Core.Path.{_≡_, refl, sym, ap, _∙_}
 use Prim.Native.Nat.{ℕ}
@@ -34,7 +34,8 @@ one-given g q h k e = sym (given-back g h) ∙ ap givenBack e ∙ given-back q k
 -- the flag and the header
 pub one-headed : (r q : Headed) (t : Told ImageSectionHeader) → Heads r t → Heads q t → r ≡ q
 one-headed r q t a b =
-    let flag : r .given ≡ q .given = one-given (r .given) (q .given) (r .header) (q .header) (a .told ∙ sym (b .told)) in
+    let flag : r .given ≡ q .given =
+    one-given (r .given) (q .given) (r .header) (q .header) (a .told ∙ sym (b .told)) in
     let beside : r .header ≡ q .header = a .beside ∙ sym (b .beside) in
     ap (λ (g : Given). record { given = g; header = r .header }) flag
     ∙ ap (λ (h : ImageSectionHeader). record { given = q .given; header = h }) beside

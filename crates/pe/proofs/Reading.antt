@@ -1,6 +1,6 @@
 -- A name as it is read: what is due and what is left of the name tell as much as the whole of it.
 -- Assumes nothing.
-use mathlib.Core.Path.{_≡_, refl, sym, ap, _∙_, subst}
+use mathlib.Core.Path.{_≡_, refl, sym, ap, _∙_}
 use mathlib.Core.Logic.{_≢_}
 use Prim.Native.Nat.{ℕ, _+_, _-_, _≤_, _<_}
 use native.Mathlib.Omega.{arith}
@@ -84,8 +84,8 @@ module _ (s : List ℕ) (end at : ℕ) where
       let b = getD s i 0 in
       let low : 1 ≤ b = leb-true 1 b (and-left (leb 1 b) (leb b 127) e) in
       let high : b ≤ 127 = leb-true b 127 (and-right (leb 1 b) (leb b 127) e) in
-      subst (λ (d : Option (List Range)). Reading s end at d (i + 1)) (sym (led (some []) 0x00 128 refl b (omega arith) (omega arith)))
-      (reading-more (some []) i r h (λ z. omega arith))
+      let none-due : some [] ≡ next (some []) b = led (some []) 0x00 128 refl b (omega arith) (omega arith) in
+      rw none-due (reading-more (some []) i r h (λ z. omega arith))
 
 -- the eight bytes at a place, as they are read
 pub eight-left : (s : List ℕ) (at : ℕ) → at + 8 ≤ length s → beforeZero (take 8 (drop at s)) ≡ left s (at + 8) at
