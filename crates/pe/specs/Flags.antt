@@ -1,5 +1,5 @@
--- The flags of a section header, and the alignment that some of them hold. Names and bits are those of winnt.h's IMAGE_SCN_
--- constants, as src/pe.rs of pdb 0.8.0 has them; which method asks for which flag is src/pe.rs alone.
+-- The flags of a section header, and the alignment that some of them hold. Names and bits are those of winnt.h's
+-- IMAGE_SCN_ constants, as src/pe.rs of pdb 0.8.0 has them; which method asks for which flag is src/pe.rs alone.
 use Prim.Native.Nat.{ℕ, _-_, _^_, _/_, _%_}
 use mathlib.Core.Bool.{Bool, cond, _&&_}
 use lib.Dec.{leb, eqb}
@@ -63,7 +63,8 @@ has f x = isSet (bit f) x
 abbrev pub alignBits : ℕ → ℕ
 alignBits x = x / 0x00100000 % 16
 
--- src/pe.rs, `alignment`: of the bits 0x00F00008, 0x00100000 to 0x00E00000 alone give 1, 2, 4 to 8192; 0x8 alone gives 1; all else none
+-- src/pe.rs, `alignment`: of the bits 0x00F00008, 0x00100000 to 0x00E00000 alone give 1, 2, 4 to 8192; 0x8 alone gives
+-- 1; all else none
 unfoldable pub alignmentSpec : ℕ → Told ℕ
 alignmentSpec x =
     cond (has «IMAGE_SCN_TYPE_NO_PAD» x)

@@ -1,6 +1,6 @@
--- A section header. The names, offsets and sizes of its fields are those of the table "Section Table (Section Headers)" in
--- Microsoft's PE Format. winnt.h declares the same fields as IMAGE_SECTION_HEADER, and src/pe.rs of pdb 0.8.0 reads them in
--- this order.
+-- A section header. The names, offsets and sizes of its fields are those of the table "Section Table (Section Headers)"
+-- in Microsoft's PE Format. winnt.h declares the same fields as IMAGE_SECTION_HEADER, and src/pe.rs of pdb 0.8.0 reads
+-- them in this order.
 use mathlib.Core.Path.{_≡_}
 use Prim.Native.Nat.{ℕ, _+_, _*_, _/_}
 use mathlib.Core.Bool.{cond}

@@ -1,4 +1,4 @@
--- `gillacorn::addresses::gillacorn_internal_offset_to_section_offset` meets its contract: the answer of the library, as the face shows it.
+-- `gillacorn_internal_offset_to_section_offset` meets its contract: the library's answer, as the face shows it.
 -- Assumes nothing.
 use mathlib.Core.Path.{ap, _∙_}
 use Rattle.gillacorn.specs.Sections.{offsetAnswer}

@@ -35,7 +35,9 @@ returns-2 : tie.Need-returns-2
 returns-2 c = rw (c .before .enum-told .given .1) (c .no-offset .ensures)
 
 returns-3 : tie.Need-returns-3
-returns-3 c = rw (c .before .before .before .located2 .given .1, ← (c .before .refusal-number .ensures)) (c .no-offset2 .ensures)
+returns-3 c =
+    let refused = c .before .before .before .located2 .given in
+    rw (refused .1, ← (c .before .refusal-number .ensures)) (c .no-offset2 .ensures)
 
 returns-4 : tie.Need-returns-4
 returns-4 c = rw (c .before .enum-told2 .given .1) (c .no-offset3 .ensures)

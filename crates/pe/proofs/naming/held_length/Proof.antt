@@ -7,7 +7,8 @@ use Prim.Native.Nat.{ℕ, _+_, _-_}
 use native.Mathlib.Omega.{arith}
 use denote.Ref.{now}
 use Rattle.pe.specs.Due.{toldDue}
-use Rattle.pe.proofs.Reading.{Reading, reading-first, reading-ascii, reading-more, reading-zero, reading-end, eight-left}
+use Rattle.pe.proofs.Reading.{Reading, reading-first, reading-ascii, reading-more, reading-zero, reading-end}
+use Rattle.pe.proofs.Reading.{eight-left}
 use borrow.Author.Needs.{needs}
 use Rattle.pe.proofs.naming.held_length.Statement.{statement}
 use Rattle.pe.proofs.naming.held_length.Tie as tie
@@ -68,9 +69,10 @@ returns c =
     let l = c .before .before .before .before in
     let a = l .before .before .before .before .args in
     let s = now (a .table) in
+    let due = toldDue (l .loop2 .due) in
     rw (eight-left s (a .at) (omega arith))
     (c .settled .ensures
-    ∙ reading-zero s (a .at + 8) (a .at) (toldDue (l .loop2 .due)) (l .loop2 .i) (l .loop2 .inv) (omega arith) (c .before .if2 .taken))
+    ∙ reading-zero s (a .at + 8) (a .at) due (l .loop2 .i) (l .loop2 .inv) (omega arith) (c .before .if2 .taken))
 
 step-requires : tie.Need-step-requires Inv-loop μ-loop Inv-loop2 μ-loop2
 step-requires c κs = search needs
@@ -85,8 +87,10 @@ loop2-again : tie.Need-loop2-again Inv-loop μ-loop Inv-loop2 μ-loop2
 loop2-again c =
     let l = c .before .before .before .before in
     let a = l .before .before .before .before .args in
+    let s = now (a .table) in
+    let due = toldDue (l .loop2 .due) in
     rw (c .step .ensures)
-    (reading-more (now (a .table)) (a .at + 8) (a .at) (toldDue (l .loop2 .due)) (l .loop2 .i) (l .loop2 .inv) (omega arith) (c .before .if2 .left))
+    (reading-more s (a .at + 8) (a .at) due (l .loop2 .i) (l .loop2 .inv) (omega arith) (c .before .if2 .left))
 
 settled-requires-2 : tie.Need-settled-requires-2 Inv-loop μ-loop Inv-loop2 μ-loop2
 settled-requires-2 c κs = search needs
@@ -97,7 +101,8 @@ returns-2 c =
     let a = l .before .before .before .before .args in
     let s = now (a .table) in
     let e : 8 ≡ l .loop2 .i - a .at = omega arith in
-    let last = reading-end s (a .at + 8) (a .at) (toldDue (l .loop2 .due)) (l .loop2 .i) (l .loop2 .inv) (omega arith) in
+    let due = toldDue (l .loop2 .due) in
+    let last = reading-end s (a .at + 8) (a .at) due (l .loop2 .i) (l .loop2 .inv) (omega arith) in
     rw (eight-left s (a .at) (omega arith), ← last, ← e) (c .settled2 .ensures)
 
 pub held-length-spec : {M : Type 1} → statement M

@@ -23,13 +23,18 @@ within-requires : tie.Need-within-requires
 within-requires c κs = search needs
 
 returns : tie.Need-returns
-returns c = rw (c .before .before .before .before .due .given .1, sym (c .before .before .within .ensures) ∙ c .before .if1 .taken, c .if2 .taken)
+returns c =
+    let tail = c .before .before .before .before in
+    rw (tail .due .given .1, sym (c .before .before .within .ensures) ∙ c .before .if1 .taken, c .if2 .taken)
 
 sub-t9 : tie.Need-sub-t9
 sub-t9 c = search needs
 
 returns-2 : tie.Need-returns-2
-returns-2 c = rw (c .before .before .before .before .due .given .1, sym (c .before .before .within .ensures) ∙ c .before .if1 .taken, tails-more (c .before .before .before .before .due .given .0 .1 .1 .0) (omega arith))
+returns-2 c =
+    let tail = c .before .before .before .before in
+    let more = tails-more (tail .due .given .0 .1 .1 .0) (omega arith) in
+    rw (tail .due .given .1, sym (c .before .before .within .ensures) ∙ c .before .if1 .taken, more)
 
 returns-3 : tie.Need-returns-3
 returns-3 c = search needs
