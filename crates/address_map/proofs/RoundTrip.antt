@@ -17,13 +17,12 @@ use Rattle.pe.specs.Header.{headerAt}
 use Rattle.address_map.specs.Sections.{Offset, inSection, walk, sectionSpec, addressSpec}
 use Rattle.address_map.proofs.Walks.{rest, start, extentAt, walk-here, walk-on, section-good, address-at}
 
--- the header in which an address was found
-pub record Found (s : List ℕ) (a : ℕ) (x : Offset) : Type 0 where
+-- the place of the header in which an address was found
+pub record InHeader (s : List ℕ) (a : ℕ) (x : Offset) : Type 0 where
   pub place : ℕ
   pub within : place < length s / 40
   pub below : start s place ≤ a
-  pub section-is : x .section ≡ place + 1
-  pub offset-is : x .offset ≡ a - start s place
+  pub is : x ≡ inSection (place + 1) (a - start s place)
 
 -- what a walk's turn at a header gave: the place in it, or what the walk gives from the next on
 turn : (v e : Bool) (y x : Offset) (t : Told Offset) → cond v (cond e (value y) t) nothing ≡ value x
@@ -34,7 +33,7 @@ turn false e y x t h = ((cc), inr (cc))
 
 -- a walk that finds the address
 found-from : (s : List ℕ) (a i n : ℕ) (x : Offset) → i + n ≤ length s / 40
-    → walk a i (listed (headerAt s) i n) ≡ value x → Found s a x
+    → walk a i (listed (headerAt s) i n) ≡ value x → InHeader s a x
 unfolding walk listed
 found-from s a i zero x w h = let c : _≡_ {A = ℕ} 0 1 = cc in absurd (omega arith)
 found-from s a i (suc n) x w h =
@@ -44,13 +43,7 @@ found-from s a i (suc n) x w h =
     let b : start s i ≤ a = leb-true (start s i) a (k .0) in
     let same : i + 1 ≡ suc i = omega arith in
     ⊎-elim
-    (λ (q : x ≡ y). record {
-      place = i;
-      within = omega arith;
-      below = b;
-      section-is = ap (λ (z : Offset). z .section) q;
-      offset-is = ap (λ (z : Offset). z .offset) q;
-    })
+    (λ (q : x ≡ y). record { place = i; within = omega arith; below = b; is = q })
     (λ (q : walk a (i + 1) later ≡ value x).
     found-from s a (suc i) n x (omega arith) (subst (λ (j : ℕ). walk a j later ≡ value x) same q))
     (k .1)
@@ -66,8 +59,10 @@ unfolding sectionSpec
 address-back s a x h e =
     let g = good-of (sectionShape s) (walk a 0 (listed (headerAt s) 0 (length s / 40))) x e in
     let f = found-from s a 0 (length s / 40) x (omega arith) (g .1) in
-    let sum : start s (f .place) + x .offset ≡ a = omega (arith, f .offset-is, f .below) in
-    sym (address-at s (x .section) (x .offset) (g .0) (f .place) (f .section-is) (f .within) (omega arith))
+    let i = f .place in
+    let sum : start s i + (a - start s i) ≡ a = omega (arith, f .below) in
+    ap (addressSpec s) (f .is)
+    ∙ sym (address-at s (i + 1) (a - start s i) (g .0) i refl (f .within) (omega arith))
     ∙ ap value sum
 
 -- each extent ends where the next begins, or before
