@@ -1,12 +1,12 @@
 -- From an address to a section and an offset in it, and back.
 use Prim.Native.Nat.{ℕ, zero, suc, _+_, _-_, _/_}
-use mathlib.Core.Bool.{Bool, cond}
+use mathlib.Core.Bool.{cond}
 use mathlib.Core.List.{List, [], _∷_}
 use mathlib.Core.Option.{Option, none, some}
 use lib.ListN.{length}
 use lib.Dec.{ltb, leb}
 use Rattle.lent.specs.Paper.{Told, value, nothing, refused, unless, number, fitted}
-use Rattle.lent.specs.Table.{sectionShape, ifPresent}
+use Rattle.lent.specs.Table.{sectionShape}
 use Rattle.pe.specs.Header.{headerAt, headers}
 use Rattle.pe.specs.Extent.{extent}
 use Rattle.pe.specs.declared.header.ImageSectionHeader.{ImageSectionHeader}

@@ -1,5 +1,4 @@
 -- What the face shows of a place in a section.
-use Prim.Native.Nat.{ℕ}
 use Rattle.lent.specs.Paper.{Told, value, nothing, refused}
 use Rattle.address_map.specs.Sections.{Offset}
 use Rattle.gillacorn.specs.declared.sections.OffsetAnswer.{OffsetAnswer}
