@@ -1,4 +1,3 @@
 pub mod Walks
-pub mod Then
 pub mod RoundTrip
 pub mod Determined

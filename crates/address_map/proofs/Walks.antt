@@ -4,7 +4,7 @@ use mathlib.Core.Path.{_≡_, ap}
 use Prim.Native.Nat.{ℕ, _+_, _-_, _/_, _≤_, _<_}
 use native.Mathlib.Numerals.{add-one}
 use mathlib.Core.Bool.{cond}
-use mathlib.Core.List.{List}
+use mathlib.Core.List.{List, _∷_}
 use mathlib.Core.Option.{none, some}
 use lib.ListN.{length}
 use lib.Dec.{ltb}
@@ -15,7 +15,7 @@ use Rattle.lent.proofs.Place.{listed-step, listed-end, listed-all}
 use Rattle.pe.specs.Header.{headerAt}
 use Rattle.pe.specs.Extent.{extent}
 use Rattle.pe.specs.declared.header.ImageSectionHeader.{ImageSectionHeader}
-use Rattle.address_map.specs.Sections.{Offset, walk, sectionSpec, placed, addressSpec}
+use Rattle.address_map.specs.Sections.{Offset, inSection, walk, sectionSpec, placed, addressSpec}
 
 -- the headers from place i on
 abbrev pub rest : List ℕ → ℕ → List ImageSectionHeader
@@ -24,24 +24,30 @@ rest s i = listed (headerAt s) i (length s / 40 - i)
 abbrev pub start : List ℕ → ℕ → ℕ
 start s i = headerAt s i .«virtual_address»
 
+abbrev pub extentAt : List ℕ → ℕ → ℕ
+extentAt s i = extent (headerAt s i)
+
 module _ (s : List ℕ) (a i : ℕ) where
   pub walk-end : length s / 40 ≤ i → walk a i (rest s i) ≡ nothing
   unfolding walk
   walk-end h = rw (listed-end (headerAt s) i (length s / 40) h)
 
   module _ (h : i < length s / 40) where
+    first : rest s i ≡ headerAt s i ∷ rest s (i + 1)
+    first = listed-step (headerAt s) i (length s / 40) h
+
     pub walk-later : a < start s i → walk a i (rest s i) ≡ nothing
     unfolding walk
-    walk-later l = rw (listed-step (headerAt s) i (length s / 40) h, lt-leb (start s i) a l)
+    walk-later l = rw (first, lt-leb (start s i) a l)
 
     module _ (b : start s i ≤ a) where
-      pub walk-here : a - start s i < extent (headerAt s i) → walk a i (rest s i) ≡ value (record { section = i + 1; offset = a - start s i })
+      pub walk-here : a - start s i < extentAt s i → walk a i (rest s i) ≡ value (inSection (i + 1) (a - start s i))
       unfolding walk
-      walk-here l = rw (listed-step (headerAt s) i (length s / 40) h, le-leb (start s i) a b, lt-ltb (a - start s i) (extent (headerAt s i)) l)
+      walk-here l = rw (first, le-leb (start s i) a b, lt-ltb (a - start s i) (extentAt s i) l)
 
-      pub walk-on : extent (headerAt s i) ≤ a - start s i → walk a i (rest s i) ≡ walk a (i + 1) (rest s (i + 1))
+      pub walk-on : extentAt s i ≤ a - start s i → walk a i (rest s i) ≡ walk a (i + 1) (rest s (i + 1))
       unfolding walk
-      walk-on l = rw (listed-step (headerAt s) i (length s / 40) h, le-leb (start s i) a b, le-ltb (a - start s i) (extent (headerAt s i)) l)
+      walk-on l = rw (first, le-leb (start s i) a b, le-ltb (a - start s i) (extentAt s i) l)
 
 module _ (s : List ℕ) (a : ℕ) where
   pub section-refused : (n : ℕ) → some n ≡ sectionShape s → refused n ≡ sectionSpec s a
@@ -54,7 +60,7 @@ module _ (s : List ℕ) (a : ℕ) where
 
 module _ (s : List ℕ) (n o : ℕ) where
   abbrev x : Offset
-  x = record { section = n; offset = o }
+  x = inSection n o
 
   pub address-refused : (k : ℕ) → some k ≡ sectionShape s → refused k ≡ addressSpec s x
   unfolding addressSpec

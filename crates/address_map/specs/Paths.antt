@@ -9,19 +9,20 @@
 --
 -- `cross` goes through the OMAP: to-original from the actual side, to-transformed from the internal side. `locate` and
 -- `place` use the sections of their side: for the actual side the transformed ones if they are there, else the original
--- ones. (*) returns its input where there are no transformed sections. A path stops at the first step that gives none or is
--- refused, so a table is checked when the path first reads it.
+-- ones. (*) returns its input where there are no transformed sections. A path stops at the first step that gives none
+-- or is refused, so a table is checked when the path first reads it.
 use Prim.Native.Nat.{ℕ}
 use mathlib.Core.Bool.{Bool, cond}
 use mathlib.Core.List.{List}
-use Rattle.lent.specs.Paper.{Told, value, nothing, refused, andThen, number}
+use Rattle.lent.specs.Paper.{Told, value, andThen}
 use Rattle.lent.specs.Table.{ifPresent}
 use Rattle.omap.specs.Lookup.{lookupSpec}
 use Rattle.address_map.specs.Sections.{Offset, sectionSpec, addressSpec}
 
 -- the sections of the actual side
 abbrev pub actual : Bool → List ℕ → Bool → List ℕ → List ℕ
-actual hasOriginal original hasTransformed transformed = cond hasTransformed transformed (ifPresent hasOriginal original)
+actual hasOriginal original hasTransformed transformed =
+    cond hasTransformed transformed (ifPresent hasOriginal original)
 
 -- cross, locate
 unfoldable pub crossLocate : Bool → List ℕ → List ℕ → ℕ → Told Offset
@@ -31,10 +32,7 @@ crossLocate present omap sections a = andThen (lookupSpec present omap a) (secti
 unfoldable pub placeCross : List ℕ → Bool → List ℕ → Offset → Told ℕ
 placeCross sections present omap x = andThen (addressSpec sections x) (lookupSpec present omap)
 
--- place, cross, locate
-unfoldable pub placeCrossLocate : List ℕ → Bool → List ℕ → List ℕ → Offset → Told Offset
-placeCrossLocate from present omap to x = andThen (placeCross from present omap x) (sectionSpec to)
-
--- with no transformed sections, the input
-abbrev pub ifTransformed : Bool → Told Offset → Offset → Told Offset
-ifTransformed hasTransformed path x = cond hasTransformed path (value x)
+-- place, cross, locate; with no transformed sections, the input
+unfoldable pub placeCrossLocate : Bool → List ℕ → Bool → List ℕ → List ℕ → Offset → Told Offset
+placeCrossLocate hasTransformed from present omap to x =
+    cond hasTransformed (andThen (placeCross from present omap x) (sectionSpec to)) (value x)

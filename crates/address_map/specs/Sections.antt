@@ -1,12 +1,12 @@
 -- From an address to a section and an offset in it, and back.
 use Prim.Native.Nat.{ℕ, zero, suc, _+_, _-_, _/_}
-use mathlib.Core.Bool.{Bool, cond}
+use mathlib.Core.Bool.{cond}
 use mathlib.Core.List.{List, [], _∷_}
 use mathlib.Core.Option.{Option, none, some}
 use lib.ListN.{length}
 use lib.Dec.{ltb, leb}
 use Rattle.lent.specs.Paper.{Told, value, nothing, refused, unless, number, fitted}
-use Rattle.lent.specs.Table.{sectionShape, ifPresent}
+use Rattle.lent.specs.Table.{sectionShape}
 use Rattle.pe.specs.Header.{headerAt, headers}
 use Rattle.pe.specs.Extent.{extent}
 use Rattle.pe.specs.declared.header.ImageSectionHeader.{ImageSectionHeader}
@@ -18,8 +18,11 @@ pub record Offset : Type 0 where
   pub section : ℕ
   pub offset : ℕ
 
+abbrev pub inSection : ℕ → ℕ → Offset
+inSection n o = record { section = n; offset = o }
+
 abbrev pub toldLocated : Located → Told Offset
-toldLocated (located.At n o) = value (record { section = n; offset = o })
+toldLocated (located.At n o) = value (inSection n o)
 toldLocated located.Nothing = nothing
 toldLocated (located.Refused why) = refused (number why)
 toldLocated located.TooLarge = refused 4
@@ -30,7 +33,7 @@ walk a i [] = nothing
 walk a i (h ∷ l) =
     cond (leb (h .«virtual_address») a)
     (cond (ltb (a - h .«virtual_address») (extent h))
-    (value (record { section = i + 1; offset = a - h .«virtual_address» }))
+    (value (inSection (i + 1) (a - h .«virtual_address»)))
     (walk a (i + 1) l))
     nothing
 

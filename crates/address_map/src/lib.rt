@@ -3,15 +3,14 @@
 ghost use mathlib.Core.Path.{_≡_};
 ghost use Rattle.lent.specs.Table.{ifPresent};
 ghost use Rattle.omap.specs.Lookup.{lookupSpec, toldLooked};
-ghost use Rattle.address_map.specs.Sections.{sectionSpec, addressSpec, toldLocated};
-ghost use Rattle.address_map.specs.Paths.{actual, crossLocate, placeCross, placeCrossLocate, ifTransformed};
-ghost use Rattle.address_map.specs.Answers.{toldRva, toldInternalRva, toldOffset, toldInternalOffset, offsetOf, internalOffsetOf};
+ghost use Rattle.address_map.specs.Sections.{inSection, sectionSpec, addressSpec, toldLocated};
+ghost use Rattle.address_map.specs.Paths.{actual, crossLocate, placeCross, placeCrossLocate};
 
 pub mod paths;
-pub mod ranges;
 pub mod sections;
 
-use lent::Refusal;
+use crate::sections::Located;
+use omap::Looked;
 
 // An address in the actual image.
 pub struct Rva(pub u32);
@@ -31,86 +30,12 @@ pub struct PdbInternalSectionOffset {
     pub section: u16,
 }
 
-pub enum ToRva {
-    At(Rva),
-    Nothing,
-    Refused(Refusal),
-    TooLarge,
-}
-
-pub enum ToInternalRva {
-    At(PdbInternalRva),
-    Nothing,
-    Refused(Refusal),
-    TooLarge,
-}
-
-pub enum ToOffset {
-    At(SectionOffset),
-    Nothing,
-    Refused(Refusal),
-    TooLarge,
-}
-
-pub enum ToInternalOffset {
-    At(PdbInternalSectionOffset),
-    Nothing,
-    Refused(Refusal),
-    TooLarge,
-}
-
-fn rva_of(looked: omap::Looked) -> ToRva
-    ensures { λ r. ⌜ toldRva r ≡ toldLooked looked ⌝ }
-{
-    match looked {
-        omap::Looked::At(a) => ToRva::At(Rva(a)),
-        omap::Looked::Nothing => ToRva::Nothing,
-        omap::Looked::Refused(why) => ToRva::Refused(why),
-        omap::Looked::TooLarge => ToRva::TooLarge,
-    }
-}
-
-fn internal_rva_of(looked: omap::Looked) -> ToInternalRva
-    ensures { λ r. ⌜ toldInternalRva r ≡ toldLooked looked ⌝ }
-{
-    match looked {
-        omap::Looked::At(a) => ToInternalRva::At(PdbInternalRva(a)),
-        omap::Looked::Nothing => ToInternalRva::Nothing,
-        omap::Looked::Refused(why) => ToInternalRva::Refused(why),
-        omap::Looked::TooLarge => ToInternalRva::TooLarge,
-    }
-}
-
-fn section_offset_of(located: sections::Located) -> ToOffset
-    ensures { λ r. ⌜ toldOffset r ≡ toldLocated located ⌝ }
-{
-    match located {
-        sections::Located::At(section, offset) => ToOffset::At(SectionOffset { offset, section }),
-        sections::Located::Nothing => ToOffset::Nothing,
-        sections::Located::Refused(why) => ToOffset::Refused(why),
-        sections::Located::TooLarge => ToOffset::TooLarge,
-    }
-}
-
-fn internal_offset_of(located: sections::Located) -> ToInternalOffset
-    ensures { λ r. ⌜ toldInternalOffset r ≡ toldLocated located ⌝ }
-{
-    match located {
-        sections::Located::At(section, offset) => {
-            ToInternalOffset::At(PdbInternalSectionOffset { offset, section })
-        }
-        sections::Located::Nothing => ToInternalOffset::Nothing,
-        sections::Located::Refused(why) => ToInternalOffset::Refused(why),
-        sections::Located::TooLarge => ToInternalOffset::TooLarge,
-    }
-}
-
 impl Rva {
     // The address before the image was rearranged.
-    pub fn to_internal_rva(self, has_to_original: bool, to_original: &[u8]) -> ToInternalRva
-        ensures { λ r. ⌜ toldInternalRva r ≡ lookupSpec «has_to_original» (now («to_original» .entry)) (self .0) ⌝ }
+    pub fn to_internal_rva(self, has_to_original: bool, to_original: &[u8]) -> Looked
+        ensures { λ r. ⌜ toldLooked r ≡ lookupSpec «has_to_original» (now («to_original» .entry)) (self .0) ⌝ }
     {
-        internal_rva_of(omap::lookup(has_to_original, to_original, self.0))
+        omap::lookup(has_to_original, to_original, self.0)
     }
 
     // The section and the offset in it.
@@ -120,11 +45,11 @@ impl Rva {
         original: &'s [u8],
         has_transformed: bool,
         transformed: &'s [u8],
-    ) -> ToOffset
-        ensures { λ r. ⌜ toldOffset r ≡ sectionSpec (actual «has_original» (now (original .entry)) «has_transformed» (now (transformed .entry))) (self .0) ⌝ }
+    ) -> Located
+        ensures { λ r. ⌜ toldLocated r ≡ sectionSpec (actual «has_original» (now (original .entry)) «has_transformed» (now (transformed .entry))) (self .0) ⌝ }
     {
         let sections = paths::actual_sections(has_original, original, has_transformed, transformed);
-        section_offset_of(sections::get_section_offset(sections, self.0))
+        sections::get_section_offset(sections, self.0)
     }
 
     // The section of the original image and the offset in it.
@@ -134,20 +59,20 @@ impl Rva {
         original: &[u8],
         has_to_original: bool,
         to_original: &[u8],
-    ) -> ToInternalOffset
-        ensures { λ r. ⌜ toldInternalOffset r ≡ crossLocate «has_to_original» (now («to_original» .entry)) (ifPresent «has_original» (now (original .entry))) (self .0) ⌝ }
+    ) -> Located
+        ensures { λ r. ⌜ toldLocated r ≡ crossLocate «has_to_original» (now («to_original» .entry)) (ifPresent «has_original» (now (original .entry))) (self .0) ⌝ }
     {
         let sections = lent::if_present(has_original, original);
-        internal_offset_of(paths::cross_locate(has_to_original, to_original, sections, self.0))
+        paths::cross_locate(has_to_original, to_original, sections, self.0)
     }
 }
 
 impl PdbInternalRva {
     // The address in the actual image.
-    pub fn to_rva(self, has_to_transformed: bool, to_transformed: &[u8]) -> ToRva
-        ensures { λ r. ⌜ toldRva r ≡ lookupSpec «has_to_transformed» (now («to_transformed» .entry)) (self .0) ⌝ }
+    pub fn to_rva(self, has_to_transformed: bool, to_transformed: &[u8]) -> Looked
+        ensures { λ r. ⌜ toldLooked r ≡ lookupSpec «has_to_transformed» (now («to_transformed» .entry)) (self .0) ⌝ }
     {
-        rva_of(omap::lookup(has_to_transformed, to_transformed, self.0))
+        omap::lookup(has_to_transformed, to_transformed, self.0)
     }
 
     // The section of the actual image and the offset in it.
@@ -159,19 +84,19 @@ impl PdbInternalRva {
         transformed: &'s [u8],
         has_to_transformed: bool,
         to_transformed: &[u8],
-    ) -> ToOffset
-        ensures { λ r. ⌜ toldOffset r ≡ crossLocate «has_to_transformed» (now («to_transformed» .entry)) (actual «has_original» (now (original .entry)) «has_transformed» (now (transformed .entry))) (self .0) ⌝ }
+    ) -> Located
+        ensures { λ r. ⌜ toldLocated r ≡ crossLocate «has_to_transformed» (now («to_transformed» .entry)) (actual «has_original» (now (original .entry)) «has_transformed» (now (transformed .entry))) (self .0) ⌝ }
     {
         let sections = paths::actual_sections(has_original, original, has_transformed, transformed);
-        section_offset_of(paths::cross_locate(has_to_transformed, to_transformed, sections, self.0))
+        paths::cross_locate(has_to_transformed, to_transformed, sections, self.0)
     }
 
     // The section of the original image and the offset in it.
-    pub fn to_internal_offset(self, has_original: bool, original: &[u8]) -> ToInternalOffset
-        ensures { λ r. ⌜ toldInternalOffset r ≡ sectionSpec (ifPresent «has_original» (now (original .entry))) (self .0) ⌝ }
+    pub fn to_internal_offset(self, has_original: bool, original: &[u8]) -> Located
+        ensures { λ r. ⌜ toldLocated r ≡ sectionSpec (ifPresent «has_original» (now (original .entry))) (self .0) ⌝ }
     {
         let sections = lent::if_present(has_original, original);
-        internal_offset_of(sections::get_section_offset(sections, self.0))
+        sections::get_section_offset(sections, self.0)
     }
 }
 
@@ -183,11 +108,11 @@ impl SectionOffset {
         original: &'s [u8],
         has_transformed: bool,
         transformed: &'s [u8],
-    ) -> ToRva
-        ensures { λ r. ⌜ toldRva r ≡ addressSpec (actual «has_original» (now (original .entry)) «has_transformed» (now (transformed .entry))) (offsetOf self) ⌝ }
+    ) -> Looked
+        ensures { λ r. ⌜ toldLooked r ≡ addressSpec (actual «has_original» (now (original .entry)) «has_transformed» (now (transformed .entry))) (inSection (self .section) (self .offset)) ⌝ }
     {
         let sections = paths::actual_sections(has_original, original, has_transformed, transformed);
-        rva_of(sections::get_virtual_address(sections, self.section, self.offset))
+        sections::get_virtual_address(sections, self.section, self.offset)
     }
 
     // The address before the image was rearranged.
@@ -199,17 +124,17 @@ impl SectionOffset {
         transformed: &'s [u8],
         has_to_original: bool,
         to_original: &[u8],
-    ) -> ToInternalRva
-        ensures { λ r. ⌜ toldInternalRva r ≡ placeCross (actual «has_original» (now (original .entry)) «has_transformed» (now (transformed .entry))) «has_to_original» (now («to_original» .entry)) (offsetOf self) ⌝ }
+    ) -> Looked
+        ensures { λ r. ⌜ toldLooked r ≡ placeCross (actual «has_original» (now (original .entry)) «has_transformed» (now (transformed .entry))) «has_to_original» (now («to_original» .entry)) (inSection (self .section) (self .offset)) ⌝ }
     {
         let sections = paths::actual_sections(has_original, original, has_transformed, transformed);
-        internal_rva_of(paths::place_cross(
+        paths::place_cross(
             sections,
             has_to_original,
             to_original,
             self.section,
             self.offset,
-        ))
+        )
     }
 
     // The section of the original image and the offset in it; with no transformed sections, the same.
@@ -221,25 +146,19 @@ impl SectionOffset {
         transformed: &[u8],
         has_to_original: bool,
         to_original: &[u8],
-    ) -> ToInternalOffset
-        ensures { λ r. ⌜ toldInternalOffset r ≡ ifTransformed «has_transformed» (placeCrossLocate (now (transformed .entry)) «has_to_original» (now («to_original» .entry)) (ifPresent «has_original» (now (original .entry))) (offsetOf self)) (offsetOf self) ⌝ }
+    ) -> Located
+        ensures { λ r. ⌜ toldLocated r ≡ placeCrossLocate «has_transformed» (now (transformed .entry)) «has_to_original» (now («to_original» .entry)) (ifPresent «has_original» (now (original .entry))) (inSection (self .section) (self .offset)) ⌝ }
     {
-        if has_transformed {
-            let sections = lent::if_present(has_original, original);
-            internal_offset_of(paths::place_cross_locate(
-                transformed,
-                has_to_original,
-                to_original,
-                sections,
-                self.section,
-                self.offset,
-            ))
-        } else {
-            ToInternalOffset::At(PdbInternalSectionOffset {
-                offset: self.offset,
-                section: self.section,
-            })
-        }
+        let sections = lent::if_present(has_original, original);
+        paths::place_cross_locate(
+            has_transformed,
+            transformed,
+            has_to_original,
+            to_original,
+            sections,
+            self.section,
+            self.offset,
+        )
     }
 }
 
@@ -251,25 +170,25 @@ impl PdbInternalSectionOffset {
         original: &[u8],
         has_to_transformed: bool,
         to_transformed: &[u8],
-    ) -> ToRva
-        ensures { λ r. ⌜ toldRva r ≡ placeCross (ifPresent «has_original» (now (original .entry))) «has_to_transformed» (now («to_transformed» .entry)) (internalOffsetOf self) ⌝ }
+    ) -> Looked
+        ensures { λ r. ⌜ toldLooked r ≡ placeCross (ifPresent «has_original» (now (original .entry))) «has_to_transformed» (now («to_transformed» .entry)) (inSection (self .section) (self .offset)) ⌝ }
     {
         let sections = lent::if_present(has_original, original);
-        rva_of(paths::place_cross(
+        paths::place_cross(
             sections,
             has_to_transformed,
             to_transformed,
             self.section,
             self.offset,
-        ))
+        )
     }
 
     // The address before the image was rearranged.
-    pub fn to_internal_rva(self, has_original: bool, original: &[u8]) -> ToInternalRva
-        ensures { λ r. ⌜ toldInternalRva r ≡ addressSpec (ifPresent «has_original» (now (original .entry))) (internalOffsetOf self) ⌝ }
+    pub fn to_internal_rva(self, has_original: bool, original: &[u8]) -> Looked
+        ensures { λ r. ⌜ toldLooked r ≡ addressSpec (ifPresent «has_original» (now (original .entry))) (inSection (self .section) (self .offset)) ⌝ }
     {
         let sections = lent::if_present(has_original, original);
-        internal_rva_of(sections::get_virtual_address(sections, self.section, self.offset))
+        sections::get_virtual_address(sections, self.section, self.offset)
     }
 
     // The section of the actual image and the offset in it; with no transformed sections, the same.
@@ -281,24 +200,18 @@ impl PdbInternalSectionOffset {
         transformed: &[u8],
         has_to_transformed: bool,
         to_transformed: &[u8],
-    ) -> ToOffset
-        ensures { λ r. ⌜ toldOffset r ≡ ifTransformed «has_transformed» (placeCrossLocate (ifPresent «has_original» (now (original .entry))) «has_to_transformed» (now («to_transformed» .entry)) (now (transformed .entry)) (internalOffsetOf self)) (internalOffsetOf self) ⌝ }
+    ) -> Located
+        ensures { λ r. ⌜ toldLocated r ≡ placeCrossLocate «has_transformed» (ifPresent «has_original» (now (original .entry))) «has_to_transformed» (now («to_transformed» .entry)) (now (transformed .entry)) (inSection (self .section) (self .offset)) ⌝ }
     {
-        if has_transformed {
-            let sections = lent::if_present(has_original, original);
-            section_offset_of(paths::place_cross_locate(
-                sections,
-                has_to_transformed,
-                to_transformed,
-                transformed,
-                self.section,
-                self.offset,
-            ))
-        } else {
-            ToOffset::At(SectionOffset {
-                offset: self.offset,
-                section: self.section,
-            })
-        }
+        let sections = lent::if_present(has_original, original);
+        paths::place_cross_locate(
+            has_transformed,
+            sections,
+            has_to_transformed,
+            to_transformed,
+            transformed,
+            self.section,
+            self.offset,
+        )
     }
 }

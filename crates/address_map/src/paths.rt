@@ -1,7 +1,8 @@
 // The paths of more than one step, and the sections of the actual side.
 ghost use mathlib.Core.Path.{_≡_};
-ghost use Rattle.omap.specs.Lookup.{toldLooked};
-ghost use Rattle.address_map.specs.Sections.{toldLocated};
+ghost use Rattle.lent.specs.Paper.{andThen};
+ghost use Rattle.omap.specs.Lookup.{toldLooked, lookupSpec};
+ghost use Rattle.address_map.specs.Sections.{inSection, sectionSpec, toldLocated};
 ghost use Rattle.address_map.specs.Paths.{actual, crossLocate, placeCross, placeCrossLocate};
 use crate::sections::Located;
 use crate::sections::get_section_offset;
@@ -23,24 +24,10 @@ pub fn actual_sections<'s>(
     lent::if_present(has_original, original)
 }
 
-// Through the OMAP, then to a section.
-pub fn cross_locate(present: bool, omap: &[u8], sections: &[u8], address: u32) -> Located
-    ensures { λ r. ⌜ toldLocated r ≡ crossLocate present (now (omap .entry)) (now (sections .entry)) address ⌝ }
+// The step through the OMAP, after the step that gave an address.
+fn cross(placed: Looked, present: bool, omap: &[u8]) -> Looked
+    ensures { λ r. ⌜ toldLooked r ≡ andThen (toldLooked placed) (lookupSpec present (now (omap .entry))) ⌝ }
 {
-    let crossed = omap::lookup(present, omap, address);
-    match crossed {
-        Looked::At(a) => get_section_offset(sections, a),
-        Looked::Nothing => Located::Nothing,
-        Looked::Refused(why) => Located::Refused(why),
-        Looked::TooLarge => Located::TooLarge,
-    }
-}
-
-// From a section, then through the OMAP.
-pub fn place_cross(sections: &[u8], present: bool, omap: &[u8], section: u16, offset: u32) -> Looked
-    ensures { λ r. ⌜ toldLooked r ≡ placeCross (now (sections .entry)) present (now (omap .entry)) (record { section = section; offset = offset }) ⌝ }
-{
-    let placed = get_virtual_address(sections, section, offset);
     match placed {
         Looked::At(a) => omap::lookup(present, omap, a),
         Looked::Nothing => Looked::Nothing,
@@ -49,8 +36,39 @@ pub fn place_cross(sections: &[u8], present: bool, omap: &[u8], section: u16, of
     }
 }
 
-// From a section, through the OMAP, to a section of the other side.
+// The step to a section, after the step that gave an address.
+fn locate(crossed: Looked, sections: &[u8]) -> Located
+    ensures { λ r. ⌜ toldLocated r ≡ andThen (toldLooked crossed) (sectionSpec (now (sections .entry))) ⌝ }
+{
+    match crossed {
+        Looked::At(a) => get_section_offset(sections, a),
+        Looked::Nothing => Located::Nothing,
+        Looked::Refused(why) => Located::Refused(why),
+        Looked::TooLarge => Located::TooLarge,
+    }
+}
+
+// Through the OMAP, then to a section.
+pub fn cross_locate(present: bool, omap: &[u8], sections: &[u8], address: u32) -> Located
+    ensures { λ r. ⌜ toldLocated r ≡ crossLocate present (now (omap .entry)) (now (sections .entry)) address ⌝ }
+{
+    locate(omap::lookup(present, omap, address), sections)
+}
+
+// From a section, then through the OMAP.
+pub fn place_cross(sections: &[u8], present: bool, omap: &[u8], section: u16, offset: u32) -> Looked
+    ensures { λ r. ⌜ toldLooked r ≡ placeCross (now (sections .entry)) present (now (omap .entry)) (inSection section offset) ⌝ }
+{
+    cross(
+        get_virtual_address(sections, section, offset),
+        present,
+        omap,
+    )
+}
+
+// From a section, through the OMAP, to a section of the other side; with no transformed sections, the same.
 pub fn place_cross_locate(
+    has_transformed: bool,
     from: &[u8],
     present: bool,
     omap: &[u8],
@@ -58,13 +76,11 @@ pub fn place_cross_locate(
     section: u16,
     offset: u32,
 ) -> Located
-    ensures { λ r. ⌜ toldLocated r ≡ placeCrossLocate (now (from .entry)) present (now (omap .entry)) (now (to .entry)) (record { section = section; offset = offset }) ⌝ }
+    ensures { λ r. ⌜ toldLocated r ≡ placeCrossLocate «has_transformed» (now (from .entry)) present (now (omap .entry)) (now (to .entry)) (inSection section offset) ⌝ }
 {
-    let crossed = place_cross(from, present, omap, section, offset);
-    match crossed {
-        Looked::At(a) => get_section_offset(to, a),
-        Looked::Nothing => Located::Nothing,
-        Looked::Refused(why) => Located::Refused(why),
-        Looked::TooLarge => Located::TooLarge,
+    if has_transformed {
+        locate(place_cross(from, present, omap, section, offset), to)
+    } else {
+        Located::At(section, offset)
     }
 }

@@ -1,7 +1,7 @@
 // From an address to a section and an offset in it, and back.
 ghost use mathlib.Core.Path.{_≡_};
 ghost use Rattle.omap.specs.Lookup.{toldLooked};
-ghost use Rattle.address_map.specs.Sections.{toldLocated, sectionSpec, addressSpec};
+ghost use Rattle.address_map.specs.Sections.{inSection, toldLocated, sectionSpec, addressSpec};
 use lent::Checked;
 use lent::Refusal;
 use omap::Looked;
@@ -44,7 +44,7 @@ pub fn get_section_offset(sections: &[u8], address: u32) -> Located
 
 // The address of an offset in a section. The offset is not compared with the section's size.
 pub fn get_virtual_address(sections: &[u8], section: u16, offset: u32) -> Looked
-    ensures { λ r. ⌜ toldLooked r ≡ addressSpec (now (sections .entry)) (record { section = section; offset = offset }) ⌝ }
+    ensures { λ r. ⌜ toldLooked r ≡ addressSpec (now (sections .entry)) (inSection section offset) ⌝ }
 {
     let shaped = lent::section_shape(sections);
     if let Checked::Refused(why) = shaped {

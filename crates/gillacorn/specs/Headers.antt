@@ -2,7 +2,13 @@
 use Prim.Native.Nat.{ℕ}
 use Rattle.lent.specs.Paper.{Told}
 use Rattle.pe.specs.Header.{headerOr0}
-use Rattle.pe.specs.Flags.{has, «IMAGE_SCN_CNT_CODE», «IMAGE_SCN_CNT_INITIALIZED_DATA», «IMAGE_SCN_CNT_UNINITIALIZED_DATA», «IMAGE_SCN_LNK_OTHER», «IMAGE_SCN_LNK_INFO», «IMAGE_SCN_LNK_REMOVE», «IMAGE_SCN_LNK_COMDAT», «IMAGE_SCN_NO_DEFER_SPEC_EXC», «IMAGE_SCN_GPREL», «IMAGE_SCN_MEM_PURGEABLE», «IMAGE_SCN_MEM_LOCKED», «IMAGE_SCN_MEM_PRELOAD», «IMAGE_SCN_LNK_NRELOC_OVFL», «IMAGE_SCN_MEM_DISCARDABLE», «IMAGE_SCN_MEM_NOT_CACHED», «IMAGE_SCN_MEM_NOT_PAGED», «IMAGE_SCN_MEM_SHARED», «IMAGE_SCN_MEM_EXECUTE», «IMAGE_SCN_MEM_READ», «IMAGE_SCN_MEM_WRITE»}
+use Rattle.pe.specs.Flags.{has, «IMAGE_SCN_CNT_CODE», «IMAGE_SCN_CNT_INITIALIZED_DATA»}
+use Rattle.pe.specs.Flags.{«IMAGE_SCN_CNT_UNINITIALIZED_DATA», «IMAGE_SCN_LNK_OTHER», «IMAGE_SCN_LNK_INFO»}
+use Rattle.pe.specs.Flags.{«IMAGE_SCN_LNK_REMOVE», «IMAGE_SCN_LNK_COMDAT», «IMAGE_SCN_NO_DEFER_SPEC_EXC»}
+use Rattle.pe.specs.Flags.{«IMAGE_SCN_GPREL», «IMAGE_SCN_MEM_PURGEABLE», «IMAGE_SCN_MEM_LOCKED»}
+use Rattle.pe.specs.Flags.{«IMAGE_SCN_MEM_PRELOAD», «IMAGE_SCN_LNK_NRELOC_OVFL», «IMAGE_SCN_MEM_DISCARDABLE»}
+use Rattle.pe.specs.Flags.{«IMAGE_SCN_MEM_NOT_CACHED», «IMAGE_SCN_MEM_NOT_PAGED», «IMAGE_SCN_MEM_SHARED»}
+use Rattle.pe.specs.Flags.{«IMAGE_SCN_MEM_EXECUTE», «IMAGE_SCN_MEM_READ», «IMAGE_SCN_MEM_WRITE»}
 use Rattle.pe.specs.declared.header.ImageSectionHeader.{ImageSectionHeader}
 use Rattle.gillacorn.specs.Code.{codeOf}
 use Rattle.gillacorn.specs.declared.headers.HeaderAnswer.{HeaderAnswer}

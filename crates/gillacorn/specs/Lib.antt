@@ -1,6 +1,6 @@
 pub mod Code
 pub mod Tables
 pub mod Headers
-pub mod Addresses
+pub mod Sections
 pub mod Frames
 pub mod Clashes

@@ -8,7 +8,6 @@ ghost use Rattle.pe.specs.Name.{nameSpec};
 ghost use Rattle.gillacorn.specs.Code.{codeOf, valueOf};
 ghost use Rattle.gillacorn.specs.Headers.{headerAnswer, flagsOf};
 use crate::code::Value;
-use crate::code::number_of;
 use pe::Alignment;
 use pe::Given;
 use pe::ImageSectionHeader;
@@ -52,7 +51,7 @@ fn code_of(given: Given) -> u32
     match given {
         Given::Header => 0,
         Given::Nothing => 255,
-        Given::Refused(why) => number_of(why),
+        Given::Refused(why) => lent::refusal_number(why),
     }
 }
 

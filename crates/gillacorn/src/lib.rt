@@ -6,4 +6,5 @@ pub mod code;
 pub mod frames;
 pub mod headers;
 pub mod lists;
+pub mod sections;
 pub mod tables;

@@ -31,7 +31,8 @@ module _ (s : List ℕ) (i : ℕ) where
     header-there h = rw (← good, lt-ltb i (length s / 40) h)
 
 -- a value is answered only for a place that the table has
-of-value : (h k : ImageSectionHeader) (o : Option ℕ) (t : Bool) → value h ≡ unless o (cond t (value k) nothing) → t ≡ true
+of-value : (h k : ImageSectionHeader) (o : Option ℕ) (t : Bool) → value h ≡ unless o (cond t (value k) nothing)
+    → t ≡ true
 of-value h k none true e = refl
 of-value h k none false e = cc
 of-value h k (some n) t e = cc
@@ -39,7 +40,9 @@ of-value h k (some n) t e = cc
 module _ (s : List ℕ) (i : ℕ) where
   pub placed : value (headerAt s i) ≡ headerSpec s i → i < length s / 40
   unfolding headerSpec
-  placed e = ltb-true i (length s / 40) (of-value (headerAt s i) (headerAt s i) (sectionShape s) (ltb i (length s / 40)) e)
+  placed e =
+      ltb-true i (length s / 40)
+      (of-value (headerAt s i) (headerAt s i) (sectionShape s) (ltb i (length s / 40)) e)
 
   -- and so is the flag `Header`
   pub flagged : (q : Given) → q ≡ given.Header → toldGiven q (headerAt s i) ≡ headerSpec s i → i < length s / 40

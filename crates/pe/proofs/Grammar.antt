@@ -1,4 +1,5 @@
--- `utf8` is RFC 3629's grammar: a text passes exactly where it is a row of characters, each by an alternative of the table.
+-- `utf8` is RFC 3629's grammar: a text passes exactly where it is a row of characters, each by an alternative of the
+-- table.
 -- Assumes nothing.
 use mathlib.Core.Path.{_≡_, refl, sym, ap, _∙_}
 use mathlib.Core.Logic.{_⊎_, inl, inr, ⊎-elim}
@@ -13,6 +14,9 @@ use Rattle.lent.proofs.Logic.{which, and-left, and-right}
 use Rattle.pe.specs.Utf8.{Range, _to_, holds, afterLead, next, completes, utf8, UTF8-char}
 use Rattle.pe.specs.Grammar.{Among, Fit, done, byte, Text, end, char}
 use Rattle.pe.proofs.Leads.{same, passes, led}
+
+contrary : {A : Type 0} → false ≡ true → A
+contrary z = let y : _≡_ {A = ℕ} 0 1 = cc in absurd (omega arith)
 
 -- nothing mends a wrong byte
 never : (l : List ℕ) → completes none l ≡ false
@@ -60,21 +64,30 @@ as-text l k = go (k .front) (k .whole) (k .fit)
 split : (rs : List Range) (l : List ℕ) → completes (some rs) l ≡ true → Split rs l
 unfolding completes
 split [] [] e = record { front = []; back = []; whole = refl; fit = done; text = end }
-split (r ∷ rs) [] e = let z : false ≡ true = e in let y : _≡_ {A = ℕ} 0 1 = cc in absurd (omega arith)
-split [] (b ∷ l) e = from (λ (rs : List Range) (f : completes (some rs) l ≡ true). split rs l f) (afterLead UTF8-char b) refl
+split (r ∷ rs) [] e = contrary e
+split [] (b ∷ l) e =
+    from (λ (rs : List Range) (f : completes (some rs) l ≡ true). split rs l f) (afterLead UTF8-char b) refl
   where
-    from : ((rs : List Range) → completes (some rs) l ≡ true → Split rs l) → (o : Option (List Range)) → afterLead UTF8-char b ≡ o → Split [] (b ∷ l)
-    from rest none q = let z : false ≡ true = sym (never l) ∙ (rw q at e) in let y : _≡_ {A = ℕ} 0 1 = cc in absurd (omega arith)
+    from : ((rs : List Range) → completes (some rs) l ≡ true → Split rs l) → (o : Option (List Range))
+        → afterLead UTF8-char b ≡ o → Split [] (b ∷ l)
+    from rest none q = contrary (sym (never l) ∙ (rw q at e))
     from rest (some rs) q =
         let k = rest rs (rw q at e) in
         let h = leads UTF8-char b rs q in
-        record { front = []; back = b ∷ l; whole = refl; fit = done; text = rw (k .whole) (char (h .among) (byte (h .inside) (k .fit)) (k .text)) }
+        let t : Text (b ∷ l) = rw (k .whole) (char (h .among) (byte (h .inside) (k .fit)) (k .text)) in
+        record { front = []; back = b ∷ l; whole = refl; fit = done; text = t }
 split (r ∷ rs) (b ∷ l) e =
     ⊎-elim
     (λ (h : holds r b ≡ true).
     let k = split rs l (rw h at e) in
-    record { front = b ∷ k .front; back = k .back; whole = ap (λ (x : List ℕ). b ∷ x) (k .whole); fit = byte h (k .fit); text = k .text })
-    (λ (h : holds r b ≡ false). let z : false ≡ true = sym (never l) ∙ (rw h at e) in let y : _≡_ {A = ℕ} 0 1 = cc in absurd (omega arith))
+    record {
+      front = b ∷ k .front;
+      back = k .back;
+      whole = ap (λ (x : List ℕ). b ∷ x) (k .whole);
+      fit = byte h (k .fit);
+      text = k .text;
+    })
+    (λ (h : holds r b ≡ false). contrary (sym (never l) ∙ (rw h at e)))
     (which (holds r b))
 
 -- what passes is a text of the grammar
@@ -91,7 +104,8 @@ met (r ∷ rs) (b ∷ c) l (byte h f) =
 
 -- no byte leads two alternatives: what is due after it is what its own asks for
 module _ (b : ℕ) (r : Range) (rs : List Range) (h : holds r b ≡ true) where
-  by-range : (x : Range) (xs : List Range) (n : ℕ) → passes (λ (k : ℕ). same (some xs) (afterLead UTF8-char k)) (x .low) n ≡ true
+  by-range : (x : Range) (xs : List Range) (n : ℕ)
+      → passes (λ (k : ℕ). same (some xs) (afterLead UTF8-char k)) (x .low) n ≡ true
       → x .high < x .low + n → r ∷ rs ≡ x ∷ xs → some rs ≡ afterLead UTF8-char b
   by-range x xs n t l e =
       let p : r ≡ x = cc in
@@ -118,7 +132,8 @@ module _ (b : ℕ) (r : Range) (rs : List Range) (h : holds r b ≡ true) where
 utf8-char : (form : List Range) (c l : List ℕ) → Among form UTF8-char → Fit form c → utf8 (c ++ l) ≡ utf8 l
 unfolding completes
 utf8-char [] [] l m done = refl
-utf8-char (r ∷ rs) (b ∷ c) l m (byte h f) = ap (λ (o : Option (List Range)). completes o (c ++ l)) (sym (alone b r rs h m)) ∙ met rs c l f
+utf8-char (r ∷ rs) (b ∷ c) l m (byte h f) =
+    ap (λ (o : Option (List Range)). completes o (c ++ l)) (sym (alone b r rs h m)) ∙ met rs c l f
 
 -- a text of the grammar passes
 pub text-utf8 : (l : List ℕ) → Text l → utf8 l ≡ true

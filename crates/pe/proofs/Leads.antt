@@ -1,4 +1,5 @@
--- What follows the bytes of a range that lead alike: one test that antt computes over the range, carried to each of its bytes.
+-- What follows the bytes of a range that lead alike: one test that antt computes over the range, carried to each of its
+-- bytes.
 -- Assumes nothing.
 use mathlib.Core.Path.{_≡_, refl, ap, _∙_, subst}
 use mathlib.Core.Logic.{⊎-elim}
@@ -44,8 +45,10 @@ same (some r) (some q) = sameRanges r q
 
 one-range : (r q : Range) → sameRange r q ≡ true → r ≡ q
 one-range r q t =
-    let low : r .low ≡ q .low = eqb-true (r .low) (q .low) (and-left (eqb (r .low) (q .low)) (eqb (r .high) (q .high)) t) in
-    let high : r .high ≡ q .high = eqb-true (r .high) (q .high) (and-right (eqb (r .low) (q .low)) (eqb (r .high) (q .high)) t) in
+    let lows = eqb (r .low) (q .low) in
+    let highs = eqb (r .high) (q .high) in
+    let low : r .low ≡ q .low = eqb-true (r .low) (q .low) (and-left lows highs t) in
+    let high : r .high ≡ q .high = eqb-true (r .high) (q .high) (and-right lows highs t) in
     ap (λ (n : ℕ). record { low = n; high = r .high }) low ∙ ap (λ (n : ℕ). record { low = q .low; high = n }) high
 
 one-row : (r q : List Range) → sameRanges r q ≡ true → r ≡ q
@@ -66,7 +69,8 @@ one-due (some r) (some q) t = ap some (one-row r q t)
 -- what is due after each of the n bytes from lo on
 pub led : (due : Option (List Range)) (lo n : ℕ) → passes (λ (b : ℕ). same due (afterLead UTF8-char b)) lo n ≡ true
     → (b : ℕ) → lo ≤ b → b < lo + n → due ≡ afterLead UTF8-char b
-led due lo n t b h l = one-due due (afterLead UTF8-char b) (passed (λ (k : ℕ). same due (afterLead UTF8-char k)) lo n t b h l)
+led due lo n t b h l =
+    one-due due (afterLead UTF8-char b) (passed (λ (k : ℕ). same due (afterLead UTF8-char k)) lo n t b h l)
 
 -- of some bytes of the tail that are due, one is the next
 pub tails-more : (n : ℕ) → 0 < n → tails n ≡ UTF8-tail ∷ tails (n - 1)

@@ -1,4 +1,5 @@
--- The name of a section: what `nameSpec` answers from the table's answer, and that a name is a part of its header's first eight bytes.
+-- The name of a section: what `nameSpec` answers from the table's answer, and that a name is a part of its header's
+-- first eight bytes.
 -- Assumes nothing.
 use mathlib.Core.Path.{_≡_, refl, sym, ap, _∙_}
 use mathlib.Core.Logic.{_⊎_, inl, inr, ⊎-elim}
@@ -79,7 +80,8 @@ lies-empty s n e =
     record { numbered = λ h. absurd (omega arith); inside = λ h. absurd (omega arith); part = rw e }
 
 module _ (s : List ℕ) (i : ℕ) where
-  name-there : value (headerAt s i) ≡ headerSpec s i → ifUtf8 (beforeZero (take 8 (drop (40 * i) s))) ≡ nameSpec s (suc i)
+  name-there : value (headerAt s i) ≡ headerSpec s i
+      → ifUtf8 (beforeZero (take 8 (drop (40 * i) s))) ≡ nameSpec s (suc i)
   unfolding nameSpec
   name-there v = name-held s i ∙ ap nameOf v
 
@@ -87,7 +89,8 @@ module _ (s : List ℕ) (i : ℕ) where
   lies-there v =
       let eight = take 8 (drop (40 * i) s) in
       let p = ifUtf8 (beforeZero eight) in
-      let short : length p ≤ 8 = omega (arith, ap length (front eight), length-take (length p) eight, length-take 8 (drop (40 * i) s)) in
+      let part = length-take (length p) eight in
+      let short : length p ≤ 8 = omega (arith, ap length (front eight), part, length-take 8 (drop (40 * i) s)) in
       let q : p ≡ take (length p) (drop (40 * i) s) = front eight ∙ take-take (length p) 8 (drop (40 * i) s) short in
       let one : suc i - 1 ≡ i = omega arith in
       record {

@@ -19,7 +19,8 @@ part-listed s (suc n) at h =
 
 -- the eight from a place on, one by one
 pub eight : (s : List ℕ) (at : ℕ) → at + 8 ≤ length s
-    → getD s at 0 ∷ getD s (at + 1) 0 ∷ getD s (at + 2) 0 ∷ getD s (at + 3) 0 ∷ getD s (at + 4) 0 ∷ getD s (at + 5) 0 ∷ getD s (at + 6) 0 ∷ getD s (at + 7) 0 ∷ []
+    → getD s at 0 ∷ getD s (at + 1) 0 ∷ getD s (at + 2) 0 ∷ getD s (at + 3) 0
+    ∷ getD s (at + 4) 0 ∷ getD s (at + 5) 0 ∷ getD s (at + 6) 0 ∷ getD s (at + 7) 0 ∷ []
     ≡ take 8 (drop at s)
 unfolding listed
 eight s at h = simp towards-suc (sym (part-listed s 8 at h))

@@ -8,11 +8,14 @@ use mathlib.Core.Bool.{Bool, true, false, cond}
 use mathlib.Core.List.{List, [], _∷_}
 use mathlib.Core.Option.{Option, some}
 use lib.ListN.{length, take, drop, getD}
-use borrow.Author.Tests.{eq-eqb, ne-eqb}
+use lib.Dec.{leb}
+use borrow.Author.Tests.{eq-eqb, ne-eqb, leb-true}
 use Rattle.lent.specs.Table.{listed}
+use Rattle.lent.proofs.Logic.{and-left, and-right}
 use Rattle.lent.proofs.Place.{listed-step, listed-end}
 use Rattle.pe.specs.Name.{beforeZero, ifUtf8}
-use Rattle.pe.specs.Utf8.{Range, next, complete, completes, utf8}
+use Rattle.pe.specs.Utf8.{Range, _to_, holds, afterLead, next, complete, completes, utf8}
+use Rattle.pe.proofs.Leads.{led}
 use Rattle.pe.proofs.Part.{part-listed}
 
 -- the part before the first zero of the bytes from place i to the end
@@ -72,6 +75,17 @@ module _ (s : List ℕ) (end at : ℕ) where
 
     pub reading-end : end ≤ i → cond (complete due) (i - at) 0 ≡ length (ifUtf8 (left s end at))
     reading-end h = reading-done (left-end s end i h)
+
+  -- after a character of ASCII nothing is due
+  pub reading-ascii : (i : ℕ) → Reading s end at (some []) i → i < end → holds (0x01 to 0x7F) (getD s i 0) ≡ true
+      → Reading s end at (some []) (i + 1)
+  unfolding afterLead
+  reading-ascii i r h e =
+      let b = getD s i 0 in
+      let low : 1 ≤ b = leb-true 1 b (and-left (leb 1 b) (leb b 127) e) in
+      let high : b ≤ 127 = leb-true b 127 (and-right (leb 1 b) (leb b 127) e) in
+      let none-due : some [] ≡ next (some []) b = led (some []) 0x00 128 refl b (omega arith) (omega arith) in
+      rw none-due (reading-more (some []) i r h (λ z. omega arith))
 
 -- the eight bytes at a place, as they are read
 pub eight-left : (s : List ℕ) (at : ℕ) → at + 8 ≤ length s → beforeZero (take 8 (drop at s)) ≡ left s (at + 8) at

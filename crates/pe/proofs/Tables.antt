@@ -7,13 +7,16 @@ use mathlib.Core.List.{List, [], _∷_, map}
 use lib.Dec.{eqb}
 use Rattle.lent.specs.Paper.{value, nothing}
 use Rattle.pe.specs.Header.{Field, layout, Name, VirtualSize, VirtualAddress, SizeOfRawData, PointerToRawData}
-use Rattle.pe.specs.Header.{PointerToRelocations, PointerToLinenumbers, NumberOfRelocations, NumberOfLinenumbers, Characteristics}
-use Rattle.pe.specs.Flags.{Flag, bit, alignmentSpec}
-use Rattle.pe.specs.Flags.{«IMAGE_SCN_TYPE_NO_PAD», «IMAGE_SCN_CNT_CODE», «IMAGE_SCN_CNT_INITIALIZED_DATA», «IMAGE_SCN_CNT_UNINITIALIZED_DATA»}
-use Rattle.pe.specs.Flags.{«IMAGE_SCN_LNK_OTHER», «IMAGE_SCN_LNK_INFO», «IMAGE_SCN_LNK_REMOVE», «IMAGE_SCN_LNK_COMDAT»}
-use Rattle.pe.specs.Flags.{«IMAGE_SCN_NO_DEFER_SPEC_EXC», «IMAGE_SCN_GPREL», «IMAGE_SCN_MEM_PURGEABLE», «IMAGE_SCN_MEM_LOCKED», «IMAGE_SCN_MEM_PRELOAD»}
-use Rattle.pe.specs.Flags.{«IMAGE_SCN_LNK_NRELOC_OVFL», «IMAGE_SCN_MEM_DISCARDABLE», «IMAGE_SCN_MEM_NOT_CACHED», «IMAGE_SCN_MEM_NOT_PAGED»}
-use Rattle.pe.specs.Flags.{«IMAGE_SCN_MEM_SHARED», «IMAGE_SCN_MEM_EXECUTE», «IMAGE_SCN_MEM_READ», «IMAGE_SCN_MEM_WRITE»}
+use Rattle.pe.specs.Header.{PointerToRelocations, PointerToLinenumbers, NumberOfRelocations, NumberOfLinenumbers}
+use Rattle.pe.specs.Header.{Characteristics}
+use Rattle.pe.specs.Flags.{Flag, bit, alignmentSpec, «IMAGE_SCN_TYPE_NO_PAD», «IMAGE_SCN_CNT_CODE»}
+use Rattle.pe.specs.Flags.{«IMAGE_SCN_CNT_INITIALIZED_DATA», «IMAGE_SCN_CNT_UNINITIALIZED_DATA»}
+use Rattle.pe.specs.Flags.{«IMAGE_SCN_LNK_OTHER», «IMAGE_SCN_LNK_INFO», «IMAGE_SCN_LNK_REMOVE»}
+use Rattle.pe.specs.Flags.{«IMAGE_SCN_LNK_COMDAT», «IMAGE_SCN_NO_DEFER_SPEC_EXC», «IMAGE_SCN_GPREL»}
+use Rattle.pe.specs.Flags.{«IMAGE_SCN_MEM_PURGEABLE», «IMAGE_SCN_MEM_LOCKED», «IMAGE_SCN_MEM_PRELOAD»}
+use Rattle.pe.specs.Flags.{«IMAGE_SCN_LNK_NRELOC_OVFL», «IMAGE_SCN_MEM_DISCARDABLE», «IMAGE_SCN_MEM_NOT_CACHED»}
+use Rattle.pe.specs.Flags.{«IMAGE_SCN_MEM_NOT_PAGED», «IMAGE_SCN_MEM_SHARED», «IMAGE_SCN_MEM_EXECUTE»}
+use Rattle.pe.specs.Flags.{«IMAGE_SCN_MEM_READ», «IMAGE_SCN_MEM_WRITE»}
 use Rattle.pe.specs.Utf8.{utf8, completes, afterLead}
 
 -- each field starts where the one before it ends, and the last ends at the end
@@ -33,18 +36,20 @@ fields-fill = refl
 
 abbrev pub flags : List Flag
 flags =
-    «IMAGE_SCN_TYPE_NO_PAD» ∷ «IMAGE_SCN_CNT_CODE» ∷ «IMAGE_SCN_CNT_INITIALIZED_DATA» ∷ «IMAGE_SCN_CNT_UNINITIALIZED_DATA»
-    ∷ «IMAGE_SCN_LNK_OTHER» ∷ «IMAGE_SCN_LNK_INFO» ∷ «IMAGE_SCN_LNK_REMOVE» ∷ «IMAGE_SCN_LNK_COMDAT»
-    ∷ «IMAGE_SCN_NO_DEFER_SPEC_EXC» ∷ «IMAGE_SCN_GPREL» ∷ «IMAGE_SCN_MEM_PURGEABLE» ∷ «IMAGE_SCN_MEM_LOCKED» ∷ «IMAGE_SCN_MEM_PRELOAD»
-    ∷ «IMAGE_SCN_LNK_NRELOC_OVFL» ∷ «IMAGE_SCN_MEM_DISCARDABLE» ∷ «IMAGE_SCN_MEM_NOT_CACHED» ∷ «IMAGE_SCN_MEM_NOT_PAGED»
-    ∷ «IMAGE_SCN_MEM_SHARED» ∷ «IMAGE_SCN_MEM_EXECUTE» ∷ «IMAGE_SCN_MEM_READ» ∷ «IMAGE_SCN_MEM_WRITE»
+    «IMAGE_SCN_TYPE_NO_PAD» ∷ «IMAGE_SCN_CNT_CODE» ∷ «IMAGE_SCN_CNT_INITIALIZED_DATA»
+    ∷ «IMAGE_SCN_CNT_UNINITIALIZED_DATA» ∷ «IMAGE_SCN_LNK_OTHER» ∷ «IMAGE_SCN_LNK_INFO» ∷ «IMAGE_SCN_LNK_REMOVE»
+    ∷ «IMAGE_SCN_LNK_COMDAT» ∷ «IMAGE_SCN_NO_DEFER_SPEC_EXC» ∷ «IMAGE_SCN_GPREL» ∷ «IMAGE_SCN_MEM_PURGEABLE»
+    ∷ «IMAGE_SCN_MEM_LOCKED» ∷ «IMAGE_SCN_MEM_PRELOAD» ∷ «IMAGE_SCN_LNK_NRELOC_OVFL» ∷ «IMAGE_SCN_MEM_DISCARDABLE»
+    ∷ «IMAGE_SCN_MEM_NOT_CACHED» ∷ «IMAGE_SCN_MEM_NOT_PAGED» ∷ «IMAGE_SCN_MEM_SHARED» ∷ «IMAGE_SCN_MEM_EXECUTE»
+    ∷ «IMAGE_SCN_MEM_READ» ∷ «IMAGE_SCN_MEM_WRITE»
     ∷ []
 
 -- each flag has one bit, and no two have the same
-pub one-bit-each : map bit flags ≡ map (λ (k : ℕ). 2 ^ k) (3 ∷ 5 ∷ 6 ∷ 7 ∷ 8 ∷ 9 ∷ 11 ∷ 12 ∷ 14 ∷ 15 ∷ 17 ∷ 18 ∷ 19 ∷ 24 ∷ 25 ∷ 26 ∷ 27 ∷ 28 ∷ 29 ∷ 30 ∷ 31 ∷ [])
+pub one-bit-each : map bit flags ≡ map (λ (k : ℕ). 2 ^ k)
+    (3 ∷ 5 ∷ 6 ∷ 7 ∷ 8 ∷ 9 ∷ 11 ∷ 12 ∷ 14 ∷ 15 ∷ 17 ∷ 18 ∷ 19 ∷ 24 ∷ 25 ∷ 26 ∷ 27 ∷ 28 ∷ 29 ∷ 30 ∷ 31 ∷ [])
 one-bit-each = refl
 
--- the PE format's alignments, IMAGE_SCN_ALIGN_1BYTES to IMAGE_SCN_ALIGN_8192BYTES
+-- winnt.h's alignments, IMAGE_SCN_ALIGN_1BYTES to IMAGE_SCN_ALIGN_8192BYTES
 pub alignments : map alignmentSpec
     (0x00100000 ∷ 0x00200000 ∷ 0x00300000 ∷ 0x00400000 ∷ 0x00500000 ∷ 0x00600000 ∷ 0x00700000
     ∷ 0x00800000 ∷ 0x00900000 ∷ 0x00A00000 ∷ 0x00B00000 ∷ 0x00C00000 ∷ 0x00D00000 ∷ 0x00E00000 ∷ [])
@@ -52,8 +57,10 @@ pub alignments : map alignmentSpec
 unfolding alignmentSpec
 alignments = refl
 
--- IMAGE_SCN_TYPE_NO_PAD alone; none of the bits, all of the four, and both kinds; bits beside the mask count for nothing
-pub other-alignments : map alignmentSpec (0x00000008 ∷ 0x00000000 ∷ 0x00F00000 ∷ 0x00100008 ∷ 0xFF0FFFF7 ∷ 0xFF5FFFF7 ∷ [])
+-- IMAGE_SCN_TYPE_NO_PAD alone; none of the bits, all of the four, and both kinds; bits beside the mask count for
+-- nothing
+pub other-alignments : map alignmentSpec
+    (0x00000008 ∷ 0x00000000 ∷ 0x00F00000 ∷ 0x00100008 ∷ 0xFF0FFFF7 ∷ 0xFF5FFFF7 ∷ [])
     ≡ value 1 ∷ nothing ∷ nothing ∷ nothing ∷ nothing ∷ value 16 ∷ []
 unfolding alignmentSpec
 other-alignments = refl
@@ -65,8 +72,10 @@ all (b ∷ l) = b && all l
 -- .text; U+0080, U+07FF; U+0800, U+D7FF, U+E000, U+FFFF; U+10000, U+10FFFF
 pub texts : all
     (map utf8
-    ((0x2E ∷ 0x74 ∷ 0x65 ∷ 0x78 ∷ 0x74 ∷ []) ∷ (0xC2 ∷ 0x80 ∷ 0xDF ∷ 0xBF ∷ []) ∷ (0xE0 ∷ 0xA0 ∷ 0x80 ∷ 0xED ∷ 0x9F ∷ 0xBF ∷ [])
-    ∷ (0xEE ∷ 0x80 ∷ 0x80 ∷ 0xEF ∷ 0xBF ∷ 0xBF ∷ []) ∷ (0xF0 ∷ 0x90 ∷ 0x80 ∷ 0x80 ∷ 0xF4 ∷ 0x8F ∷ 0xBF ∷ 0xBF ∷ []) ∷ []))
+    ((0x2E ∷ 0x74 ∷ 0x65 ∷ 0x78 ∷ 0x74 ∷ [])
+    ∷ (0xC2 ∷ 0x80 ∷ 0xDF ∷ 0xBF ∷ [])
+    ∷ (0xE0 ∷ 0xA0 ∷ 0x80 ∷ 0xED ∷ 0x9F ∷ 0xBF ∷ []) ∷ (0xEE ∷ 0x80 ∷ 0x80 ∷ 0xEF ∷ 0xBF ∷ 0xBF ∷ [])
+    ∷ (0xF0 ∷ 0x90 ∷ 0x80 ∷ 0x80 ∷ 0xF4 ∷ 0x8F ∷ 0xBF ∷ 0xBF ∷ []) ∷ []))
     ≡ true
 unfolding completes afterLead
 texts = refl
@@ -74,8 +83,10 @@ texts = refl
 -- overlong forms of two, three and four bytes; the first and the last surrogate; above U+10FFFF; cut; a tail alone
 pub no-texts : all
     (map (λ (l : List ℕ). not (utf8 l))
-    ((0xC1 ∷ 0xBF ∷ []) ∷ (0xE0 ∷ 0x9F ∷ 0xBF ∷ []) ∷ (0xF0 ∷ 0x8F ∷ 0xBF ∷ 0xBF ∷ []) ∷ (0xED ∷ 0xA0 ∷ 0x80 ∷ []) ∷ (0xED ∷ 0xBF ∷ 0xBF ∷ [])
-    ∷ (0xF4 ∷ 0x90 ∷ 0x80 ∷ 0x80 ∷ []) ∷ (0xF5 ∷ 0x80 ∷ 0x80 ∷ 0x80 ∷ []) ∷ (0xE2 ∷ 0x82 ∷ []) ∷ (0x80 ∷ []) ∷ []))
+    ((0xC1 ∷ 0xBF ∷ []) ∷ (0xE0 ∷ 0x9F ∷ 0xBF ∷ []) ∷ (0xF0 ∷ 0x8F ∷ 0xBF ∷ 0xBF ∷ [])
+    ∷ (0xED ∷ 0xA0 ∷ 0x80 ∷ []) ∷ (0xED ∷ 0xBF ∷ 0xBF ∷ [])
+    ∷ (0xF4 ∷ 0x90 ∷ 0x80 ∷ 0x80 ∷ []) ∷ (0xF5 ∷ 0x80 ∷ 0x80 ∷ 0x80 ∷ [])
+    ∷ (0xE2 ∷ 0x82 ∷ []) ∷ (0x80 ∷ []) ∷ []))
     ≡ true
 unfolding completes afterLead
 no-texts = refl

@@ -1,8 +1,10 @@
--- The flags of a section header, by the PE format's table of them, and the alignment that some of them hold.
+-- The flags of a section header, and the alignment that some of them hold. Names and bits are those of winnt.h's
+-- IMAGE_SCN_ constants, as src/pe.rs of pdb 0.8.0 has them; which method asks for which flag is src/pe.rs alone.
 use Prim.Native.Nat.{ℕ, _-_, _^_, _/_, _%_}
 use mathlib.Core.Bool.{Bool, cond, _&&_}
 use lib.Dec.{leb, eqb}
 use Rattle.lent.specs.Paper.{Told, value, nothing}
+use Rattle.lent.specs.Words.{isSet}
 use Rattle.pe.specs.declared.characteristics.Alignment.{Alignment}
 use Rattle.pe.specs.declared.characteristics.Alignment.the-variants as alignment
 
@@ -29,7 +31,7 @@ pub data Flag : Type 0 where
   «IMAGE_SCN_MEM_READ» : Flag
   «IMAGE_SCN_MEM_WRITE» : Flag
 
--- the PE format's table: the bit of each flag, as the number that has it alone
+-- winnt.h, IMAGE_SECTION_HEADER: the bit of each flag, as the number that has it alone
 abbrev pub bit : Flag → ℕ
 bit «IMAGE_SCN_TYPE_NO_PAD» = 0x00000008
 bit «IMAGE_SCN_CNT_CODE» = 0x00000020
@@ -53,10 +55,6 @@ bit «IMAGE_SCN_MEM_EXECUTE» = 0x20000000
 bit «IMAGE_SCN_MEM_READ» = 0x40000000
 bit «IMAGE_SCN_MEM_WRITE» = 0x80000000
 
--- the bit that the number b has alone is set in x
-abbrev pub isSet : ℕ → ℕ → Bool
-isSet b x = eqb (x / b % 2) 1
-
 -- a flag is set in the characteristics x
 abbrev pub has : Flag → ℕ → Bool
 has f x = isSet (bit f) x
@@ -65,7 +63,8 @@ has f x = isSet (bit f) x
 abbrev pub alignBits : ℕ → ℕ
 alignBits x = x / 0x00100000 % 16
 
--- of the bits 0x00F00008, 0x00100000 to 0x00E00000 alone give 1, 2, 4 to 8192; 0x8 alone gives 1; all else none
+-- src/pe.rs, `alignment`: of the bits 0x00F00008, 0x00100000 to 0x00E00000 alone give 1, 2, 4 to 8192; 0x8 alone gives
+-- 1; all else none
 unfoldable pub alignmentSpec : ℕ → Told ℕ
 alignmentSpec x =
     cond (has «IMAGE_SCN_TYPE_NO_PAD» x)

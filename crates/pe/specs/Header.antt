@@ -1,4 +1,6 @@
--- A section header, by the PE format's table of its fields.
+-- A section header. The names, offsets and sizes of its fields are those of the table "Section Table (Section Headers)"
+-- in Microsoft's PE Format. winnt.h declares the same fields as IMAGE_SECTION_HEADER, and src/pe.rs of pdb 0.8.0 reads
+-- them in this order.
 use mathlib.Core.Path.{_≡_}
 use Prim.Native.Nat.{ℕ, _+_, _*_, _/_}
 use mathlib.Core.Bool.{cond}
@@ -32,7 +34,7 @@ pub record Span : Type 0 where
 abbrev pub span : ℕ → ℕ → Span
 span o n = record { offset = o; size = n }
 
--- the PE format's table: the offset and the size in bytes of each field
+-- PE Format, Section Table: the offset and the size in bytes of each field
 abbrev pub layout : Field → Span
 layout Name = span 0 8
 layout VirtualSize = span 8 4

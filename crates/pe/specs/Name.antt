@@ -1,4 +1,4 @@
--- The name of a section.
+-- The name of a section, by `name` of src/pe.rs; a table that is refused or too short holds no name.
 use Prim.Native.Nat.{ℕ, zero, suc}
 use mathlib.Core.Bool.{cond}
 use mathlib.Core.List.{List, [], _∷_}

@@ -51,7 +51,8 @@ afterLead [] b = none
 afterLead ([] ∷ forms) b = afterLead forms b
 afterLead ((r ∷ rs) ∷ forms) b = cond (holds r b) (some rs) (afterLead forms b)
 
--- the ranges that the next bytes have to lie in, once the byte b is read: none where it was not allowed, and between characters it begins one
+-- the ranges that the next bytes have to lie in, once the byte b is read: none where it was not allowed, and between
+-- characters it begins one
 abbrev pub next : Option (List Range) → ℕ → Option (List Range)
 next none b = none
 next (some []) b = afterLead UTF8-char b

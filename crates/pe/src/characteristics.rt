@@ -7,7 +7,8 @@ ghost use Rattle.pe.specs.Flags.{«IMAGE_SCN_NO_DEFER_SPEC_EXC», «IMAG
 ghost use Rattle.pe.specs.Flags.{«IMAGE_SCN_MEM_PURGEABLE», «IMAGE_SCN_MEM_LOCKED», «IMAGE_SCN_MEM_PRELOAD», «IMAGE_SCN_LNK_NRELOC_OVFL»};
 ghost use Rattle.pe.specs.Flags.{«IMAGE_SCN_MEM_DISCARDABLE», «IMAGE_SCN_MEM_NOT_CACHED», «IMAGE_SCN_MEM_NOT_PAGED»};
 ghost use Rattle.pe.specs.Flags.{«IMAGE_SCN_MEM_SHARED», «IMAGE_SCN_MEM_EXECUTE», «IMAGE_SCN_MEM_READ», «IMAGE_SCN_MEM_WRITE»};
-ghost use Rattle.pe.specs.Flags.{alignmentSpec, has, isSet, toldAlignment};
+ghost use Rattle.lent.specs.Words.{isSet};
+ghost use Rattle.pe.specs.Flags.{alignmentSpec, has, toldAlignment};
 
 const IMAGE_SCN_TYPE_NO_PAD: u32 = 0x00000008;
 
@@ -54,7 +55,7 @@ const IMAGE_SCN_MEM_WRITE: u32 = 0x80000000;
 // The lowest of the four bits that hold the alignment.
 const IMAGE_SCN_ALIGN_1BYTES: u32 = 0x00100000;
 
-// The flags of a section header, which the PE format defines as `IMAGE_SCN_` constants.
+// The flags of a section header, which winnt.h defines as `IMAGE_SCN_` constants.
 #[repr(C)]
 pub struct SectionCharacteristics(pub u32);
 

@@ -37,8 +37,8 @@ fn lead(b: u8) -> Due
     }
 }
 
-// Whether a byte that follows lies in its range.
-fn follows(b: u8, low: u8, high: u8) -> bool
+// Whether a byte lies in a range.
+fn within(b: u8, low: u8, high: u8) -> bool
     ensures { λ r. ⌜ r ≡ holds (low to high) b ⌝ }
 {
     low <= b && b <= high
@@ -52,7 +52,7 @@ fn step(due: Due, b: u8) -> Due
         Due::Never => Due::Never,
         Due::Character => lead(b),
         Due::Bytes(low, high, more) => {
-            if follows(b, low, high) {
+            if within(b, low, high) {
                 if more == 0 {
                     return Due::Character;
                 }
@@ -80,8 +80,12 @@ fn held_length(table: &[u8], at: usize) -> usize
     ensures { λ r. ⌜ r ≡ length (ifUtf8 (beforeZero (take 8 (drop at (now (table .entry)))))) ⌝ }
 {
     let end = at + 8;
-    let mut due = Due::Character;
     let mut i = at;
+    // After ASCII a character begins: nothing is due.
+    while i < end && within(table[i], 0x01, 0x7F) {
+        i += 1;
+    }
+    let mut due = Due::Character;
     while i < end {
         let b = table[i];
         if b == 0 {

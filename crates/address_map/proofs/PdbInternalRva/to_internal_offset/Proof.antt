@@ -1,4 +1,4 @@
--- `address_map::PdbInternalRva::to_internal_offset` meets its contract: its path, and the kind of the answer.
+-- `address_map::PdbInternalRva::to_internal_offset` meets its contract: its path.
 -- Assumes nothing.
 use mathlib.Core.Path.{_∙_}
 use borrow.Author.Needs.{needs}
@@ -11,13 +11,9 @@ if-present-requires c κs = search needs
 get-section-offset-requires : tie.Need-get-section-offset-requires
 get-section-offset-requires c κs = search needs
 
-internal-offset-of-requires : tie.Need-internal-offset-of-requires
-internal-offset-of-requires c κs = search needs
-
 returns : tie.Need-returns
-returns c = c .internal-offset-of .ensures ∙ c .before .get-section-offset .ensures ∙ rw (c .before .before .if-present .ensures)
+returns c = c .get-section-offset .ensures ∙ rw (c .before .if-present .ensures)
 
 pub to-internal-offset-spec : {M : Type 1} → statement M
 to-internal-offset-spec =
-    tie.close
-    (tie.spec if-present-requires get-section-offset-requires internal-offset-of-requires returns)
+    tie.close (tie.spec if-present-requires get-section-offset-requires returns)

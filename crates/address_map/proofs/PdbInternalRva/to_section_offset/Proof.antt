@@ -1,4 +1,4 @@
--- `address_map::PdbInternalRva::to_section_offset` meets its contract: its path, and the kind of the answer.
+-- `address_map::PdbInternalRva::to_section_offset` meets its contract: its path.
 -- Assumes nothing.
 use mathlib.Core.Path.{_∙_}
 use borrow.Author.Needs.{needs}
@@ -11,13 +11,9 @@ actual-sections-requires c κs = search needs
 cross-locate-requires : tie.Need-cross-locate-requires
 cross-locate-requires c κs = search needs
 
-section-offset-of-requires : tie.Need-section-offset-of-requires
-section-offset-of-requires c κs = search needs
-
 returns : tie.Need-returns
-returns c = c .section-offset-of .ensures ∙ c .before .cross-locate .ensures ∙ rw (c .before .before .actual-sections .ensures)
+returns c = c .cross-locate .ensures ∙ rw (c .before .actual-sections .ensures)
 
 pub to-section-offset-spec : {M : Type 1} → statement M
 to-section-offset-spec =
-    tie.close
-    (tie.spec actual-sections-requires cross-locate-requires section-offset-of-requires returns)
+    tie.close (tie.spec actual-sections-requires cross-locate-requires returns)

@@ -1,4 +1,4 @@
--- `address_map::PdbInternalSectionOffset::to_internal_rva` meets its contract: its path, and the kind of the answer.
+-- `address_map::PdbInternalSectionOffset::to_internal_rva` meets its contract: its path.
 -- Assumes nothing.
 use mathlib.Core.Path.{_∙_}
 use borrow.Author.Needs.{needs}
@@ -13,13 +13,9 @@ if-present-requires c κs = search needs
 get-virtual-address-requires : tie.Need-get-virtual-address-requires
 get-virtual-address-requires c κs = search needs
 
-internal-rva-of-requires : tie.Need-internal-rva-of-requires
-internal-rva-of-requires c κs = search needs
-
 returns : tie.Need-returns
-returns c = c .internal-rva-of .ensures ∙ c .before .get-virtual-address .ensures ∙ rw (c .before .before .if-present .ensures)
+returns c = c .get-virtual-address .ensures ∙ rw (c .before .if-present .ensures)
 
 pub to-internal-rva-spec : {M : Type 1} → statement M
 to-internal-rva-spec =
-    tie.close
-    (tie.spec if-present-requires get-virtual-address-requires internal-rva-of-requires returns)
+    tie.close (tie.spec if-present-requires get-virtual-address-requires returns)

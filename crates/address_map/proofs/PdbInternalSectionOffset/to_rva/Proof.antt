@@ -1,4 +1,4 @@
--- `address_map::PdbInternalSectionOffset::to_rva` meets its contract: its path, and the kind of the answer.
+-- `address_map::PdbInternalSectionOffset::to_rva` meets its contract: its path.
 -- Assumes nothing.
 use mathlib.Core.Path.{_∙_}
 use borrow.Author.Needs.{needs}
@@ -11,11 +11,8 @@ if-present-requires c κs = search needs
 place-cross-requires : tie.Need-place-cross-requires
 place-cross-requires c κs = search needs
 
-rva-of-requires : tie.Need-rva-of-requires
-rva-of-requires c κs = search needs
-
 returns : tie.Need-returns
-returns c = c .rva-of .ensures ∙ c .before .place-cross .ensures ∙ rw (c .before .before .if-present .ensures)
+returns c = c .place-cross .ensures ∙ rw (c .before .if-present .ensures)
 
 pub to-rva-spec : {M : Type 1} → statement M
-to-rva-spec = tie.close (tie.spec if-present-requires place-cross-requires rva-of-requires returns)
+to-rva-spec = tie.close (tie.spec if-present-requires place-cross-requires returns)

@@ -1,4 +1,4 @@
--- `address_map::PdbInternalSectionOffset::to_section_offset` meets its contract: its path, or its input.
+-- `address_map::PdbInternalSectionOffset::to_section_offset` meets its contract: its path.
 -- Assumes nothing.
 use mathlib.Core.Path.{_∙_}
 use borrow.Author.Needs.{needs}
@@ -13,21 +13,9 @@ if-present-requires c κs = search needs
 place-cross-locate-requires : tie.Need-place-cross-locate-requires
 place-cross-locate-requires c κs = search needs
 
-section-offset-of-requires : tie.Need-section-offset-of-requires
-section-offset-of-requires c κs = search needs
-
 returns : tie.Need-returns
-returns c = rw (c .before .before .before .if1 .taken) (c .section-offset-of .ensures ∙ c .before .place-cross-locate .ensures ∙ rw (c .before .before .if-present .ensures))
-
-returns-2 : tie.Need-returns-2
-returns-2 c = rw (c .if1 .left)
+returns c = c .place-cross-locate .ensures ∙ rw (c .before .if-present .ensures)
 
 pub to-section-offset-spec : {M : Type 1} → statement M
 to-section-offset-spec =
-    tie.close
-    (tie.spec
-    if-present-requires
-    place-cross-locate-requires
-    section-offset-of-requires
-    returns
-    returns-2)
+    tie.close (tie.spec if-present-requires place-cross-locate-requires returns)

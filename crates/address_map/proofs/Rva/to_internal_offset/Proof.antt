@@ -1,4 +1,4 @@
--- `address_map::Rva::to_internal_offset` meets its contract: its path, and the kind of the answer.
+-- `address_map::Rva::to_internal_offset` meets its contract: its path.
 -- Assumes nothing.
 use mathlib.Core.Path.{_∙_}
 use borrow.Author.Needs.{needs}
@@ -11,12 +11,8 @@ if-present-requires c κs = search needs
 cross-locate-requires : tie.Need-cross-locate-requires
 cross-locate-requires c κs = search needs
 
-internal-offset-of-requires : tie.Need-internal-offset-of-requires
-internal-offset-of-requires c κs = search needs
-
 returns : tie.Need-returns
-returns c = c .internal-offset-of .ensures ∙ c .before .cross-locate .ensures ∙ rw (c .before .before .if-present .ensures)
+returns c = c .cross-locate .ensures ∙ rw (c .before .if-present .ensures)
 
 pub to-internal-offset-spec : {M : Type 1} → statement M
-to-internal-offset-spec =
-    tie.close (tie.spec if-present-requires cross-locate-requires internal-offset-of-requires returns)
+to-internal-offset-spec = tie.close (tie.spec if-present-requires cross-locate-requires returns)

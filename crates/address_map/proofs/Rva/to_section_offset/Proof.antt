@@ -1,4 +1,4 @@
--- `address_map::Rva::to_section_offset` meets its contract: its path, and the kind of the answer.
+-- `address_map::Rva::to_section_offset` meets its contract: its path.
 -- Assumes nothing.
 use mathlib.Core.Path.{_∙_}
 use borrow.Author.Needs.{needs}
@@ -11,17 +11,9 @@ actual-sections-requires c κs = search needs
 get-section-offset-requires : tie.Need-get-section-offset-requires
 get-section-offset-requires c κs = search needs
 
-section-offset-of-requires : tie.Need-section-offset-of-requires
-section-offset-of-requires c κs = search needs
-
 returns : tie.Need-returns
-returns c = c .section-offset-of .ensures ∙ c .before .get-section-offset .ensures ∙ rw (c .before .before .actual-sections .ensures)
+returns c = c .get-section-offset .ensures ∙ rw (c .before .actual-sections .ensures)
 
 pub to-section-offset-spec : {M : Type 1} → statement M
 to-section-offset-spec =
-    tie.close
-    (tie.spec
-    actual-sections-requires
-    get-section-offset-requires
-    section-offset-of-requires
-    returns)
+    tie.close (tie.spec actual-sections-requires get-section-offset-requires returns)

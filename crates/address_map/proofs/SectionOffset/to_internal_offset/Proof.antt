@@ -1,4 +1,4 @@
--- `address_map::SectionOffset::to_internal_offset` meets its contract: its path, or its input.
+-- `address_map::SectionOffset::to_internal_offset` meets its contract: its path.
 -- Assumes nothing.
 use mathlib.Core.Path.{_∙_}
 use borrow.Author.Needs.{needs}
@@ -11,21 +11,9 @@ if-present-requires c κs = search needs
 place-cross-locate-requires : tie.Need-place-cross-locate-requires
 place-cross-locate-requires c κs = search needs
 
-internal-offset-of-requires : tie.Need-internal-offset-of-requires
-internal-offset-of-requires c κs = search needs
-
 returns : tie.Need-returns
-returns c = rw (c .before .before .before .if1 .taken) (c .internal-offset-of .ensures ∙ c .before .place-cross-locate .ensures ∙ rw (c .before .before .if-present .ensures))
-
-returns-2 : tie.Need-returns-2
-returns-2 c = rw (c .if1 .left)
+returns c = c .place-cross-locate .ensures ∙ rw (c .before .if-present .ensures)
 
 pub to-internal-offset-spec : {M : Type 1} → statement M
 to-internal-offset-spec =
-    tie.close
-    (tie.spec
-    if-present-requires
-    place-cross-locate-requires
-    internal-offset-of-requires
-    returns
-    returns-2)
+    tie.close (tie.spec if-present-requires place-cross-locate-requires returns)

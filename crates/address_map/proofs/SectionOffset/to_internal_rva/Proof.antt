@@ -1,4 +1,4 @@
--- `address_map::SectionOffset::to_internal_rva` meets its contract: its path, and the kind of the answer.
+-- `address_map::SectionOffset::to_internal_rva` meets its contract: its path.
 -- Assumes nothing.
 use mathlib.Core.Path.{_∙_}
 use borrow.Author.Needs.{needs}
@@ -11,13 +11,8 @@ actual-sections-requires c κs = search needs
 place-cross-requires : tie.Need-place-cross-requires
 place-cross-requires c κs = search needs
 
-internal-rva-of-requires : tie.Need-internal-rva-of-requires
-internal-rva-of-requires c κs = search needs
-
 returns : tie.Need-returns
-returns c = c .internal-rva-of .ensures ∙ c .before .place-cross .ensures ∙ rw (c .before .before .actual-sections .ensures)
+returns c = c .place-cross .ensures ∙ rw (c .before .actual-sections .ensures)
 
 pub to-internal-rva-spec : {M : Type 1} → statement M
-to-internal-rva-spec =
-    tie.close
-    (tie.spec actual-sections-requires place-cross-requires internal-rva-of-requires returns)
+to-internal-rva-spec = tie.close (tie.spec actual-sections-requires place-cross-requires returns)

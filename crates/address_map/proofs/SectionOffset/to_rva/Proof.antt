@@ -1,4 +1,4 @@
--- `address_map::SectionOffset::to_rva` meets its contract: its path, and the kind of the answer.
+-- `address_map::SectionOffset::to_rva` meets its contract: its path.
 -- Assumes nothing.
 use mathlib.Core.Path.{_∙_}
 use borrow.Author.Needs.{needs}
@@ -11,13 +11,8 @@ actual-sections-requires c κs = search needs
 get-virtual-address-requires : tie.Need-get-virtual-address-requires
 get-virtual-address-requires c κs = search needs
 
-rva-of-requires : tie.Need-rva-of-requires
-rva-of-requires c κs = search needs
-
 returns : tie.Need-returns
-returns c = c .rva-of .ensures ∙ c .before .get-virtual-address .ensures ∙ rw (c .before .before .actual-sections .ensures)
+returns c = c .get-virtual-address .ensures ∙ rw (c .before .actual-sections .ensures)
 
 pub to-rva-spec : {M : Type 1} → statement M
-to-rva-spec =
-    tie.close
-    (tie.spec actual-sections-requires get-virtual-address-requires rva-of-requires returns)
+to-rva-spec = tie.close (tie.spec actual-sections-requires get-virtual-address-requires returns)

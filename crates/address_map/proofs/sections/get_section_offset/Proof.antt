@@ -7,15 +7,17 @@ use mathlib.Core.Option.{none}
 use denote.Ref.{now}
 use borrow.Author.Needs.{needs}
 use Rattle.lent.specs.Paper.{number, toldChecked}
-use Rattle.lent.specs.Table.{sectionShape}
+use Rattle.lent.specs.Table.{sectionTable, sectionShape}
 use Rattle.lent.proofs.Shaped.{at-most}
 use Rattle.address_map.specs.Sections.{sectionSpec, walk}
-use Rattle.address_map.proofs.Walks.{rest, walk-end, walk-later, walk-here, walk-on, section-refused, section-good}
+use Rattle.address_map.proofs.Walks.{rest, walk-end, walk-later, walk-here, walk-on}
+use Rattle.address_map.proofs.Walks.{section-refused, section-good}
 use Rattle.address_map.proofs.sections.get_section_offset.Statement.{statement}
 use Rattle.address_map.proofs.sections.get_section_offset.Tie as tie
 
 abbrev Inv-loop : tie.InvT-loop
-Inv-loop sections address n i₀ i = (i ≤ n) × ((n ≤ 65535) × (sectionSpec sections address ≡ walk address i (rest sections i)))
+Inv-loop sections address n i₀ i =
+    (i ≤ n) × ((n ≤ 65535) × (sectionSpec sections address ≡ walk address i (rest sections i)))
 
 abbrev μ-loop : tie.MeasureT-loop
 μ-loop sections address n i₀ i = n - i
@@ -29,19 +31,22 @@ enum-known-shaped c = search needs
 returns : tie.Need-returns Inv-loop μ-loop
 returns c =
     let a = c .before .before .before .before .before .args in
-    section-refused (now (a .sections)) (a .address) (number (c .before .shaped .given .0 .0)) (sym (ap toldChecked (c .before .shaped .given .1)) ∙ c .before .before .before .section-shape .ensures)
+    section-refused (now (a .sections)) (a .address) (number (c .before .shaped .given .0 .0))
+    (sym (ap toldChecked (c .before .shaped .given .1)) ∙ c .before .before .before .section-shape .ensures)
 
 enum-told : tie.Need-enum-told Inv-loop μ-loop
 enum-told c = search needs
 
 -- past the test of its shape the table is good
-good : (c : tie.After-enum-told Inv-loop μ-loop) → none ≡ sectionShape (now (c .before .before .before .before .args .sections))
+good : (c : tie.After-enum-told Inv-loop μ-loop)
+    → none ≡ sectionShape (now (c .before .before .before .before .args .sections))
 good c = sym (ap toldChecked (c .enum-told .given .1)) ∙ c .before .before .section-shape .ensures
 
 loop-holds : tie.Need-loop-holds Inv-loop μ-loop
 loop-holds c =
     let a = c .before .before .before .before .args in
-    (omega arith, (at-most 40 65535 (now (a .sections)) (good c), section-good (now (a .sections)) (a .address) (good c)))
+    let s = now (a .sections) in
+    (omega arith, (at-most sectionTable s (good c), section-good s (a .address) (good c)))
 
 virtual-address-at-requires : tie.Need-virtual-address-at-requires Inv-loop μ-loop
 virtual-address-at-requires c κs = omega arith
@@ -67,7 +72,8 @@ returns-3 c =
     let l = c .before .before .before .before .before in
     let a = l .before .before .before .before .before .args in
     let s = now (a .sections) in
-    rw (c .before .before .before .virtual-address-at .ensures) (sym (l .loop .inv .1 .1 ∙ walk-here s (a .address) (l .loop .i) (omega arith) (omega arith) (omega arith)))
+    rw (c .before .before .before .virtual-address-at .ensures)
+    (sym (l .loop .inv .1 .1 ∙ walk-here s (a .address) (l .loop .i) (omega arith) (omega arith) (omega arith)))
 
 add-i : tie.Need-add-i Inv-loop μ-loop
 add-i c = omega arith
@@ -80,7 +86,8 @@ loop-again c =
     let l = c .before .before .before .before .before in
     let a = l .before .before .before .before .before .args in
     let s = now (a .sections) in
-    (omega arith, (l .loop .inv .1 .0, l .loop .inv .1 .1 ∙ walk-on s (a .address) (l .loop .i) (omega arith) (omega arith) (omega arith)))
+    let on = walk-on s (a .address) (l .loop .i) (omega arith) (omega arith) (omega arith) in
+    (omega arith, (l .loop .inv .1 .0, l .loop .inv .1 .1 ∙ on))
 
 returns-4 : tie.Need-returns-4 Inv-loop μ-loop
 returns-4 c =

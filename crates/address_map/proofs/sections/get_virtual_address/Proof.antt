@@ -21,7 +21,8 @@ enum-known-shaped c = search needs
 returns : tie.Need-returns
 returns c =
     let a = c .before .before .before .before .before .args in
-    address-refused (now (a .sections)) (a .section) (a .offset) (number (c .before .shaped .given .0 .0)) (sym (ap toldChecked (c .before .shaped .given .1)) ∙ c .before .before .before .section-shape .ensures)
+    address-refused (now (a .sections)) (a .section) (a .offset) (number (c .before .shaped .given .0 .0))
+    (sym (ap toldChecked (c .before .shaped .given .1)) ∙ c .before .before .before .section-shape .ensures)
 
 enum-told : tie.Need-enum-told
 enum-told c = search needs
@@ -58,14 +59,16 @@ returns-4 : tie.Need-returns-4
 returns-4 c =
     let g = c .before .before .before .before in
     let a = g .before .before .before .before .args in
-    let e = c .before .virtual-address-at .ensures in
-    rw e (address-at (now (a .sections)) (a .section) (a .offset) (good g) (a .section - 1) (omega arith) (omega arith) (omega arith))
+    let i = a .section - 1 in
+    rw (c .before .virtual-address-at .ensures)
+    (address-at (now (a .sections)) (a .section) (a .offset) (good g) i (omega arith) (omega arith) (omega arith))
 
 returns-5 : tie.Need-returns-5
 returns-5 c =
     let g = c .before .before .before .before in
     let a = g .before .before .before .before .args in
-    address-large (now (a .sections)) (a .section) (a .offset) (good g) (a .section - 1) (omega arith) (omega arith) (omega arith)
+    let i = a .section - 1 in
+    address-large (now (a .sections)) (a .section) (a .offset) (good g) i (omega arith) (omega arith) (omega arith)
 
 pub get-virtual-address-spec : {M : Type 1} → statement M
 get-virtual-address-spec =

@@ -1,7 +1,7 @@
--- `gillacorn::addresses::gillacorn_internal_rva_to_section_offset` meets its contract: the answer of the library, as the face shows it.
+-- `gillacorn_internal_rva_to_section_offset` meets its contract: the library's answer, as the face shows it.
 -- Assumes nothing.
 use mathlib.Core.Path.{ap, _∙_}
-use Rattle.gillacorn.specs.Addresses.{offsetAnswer}
+use Rattle.gillacorn.specs.Sections.{offsetAnswer}
 use borrow.Author.Needs.{needs}
 use Rattle.gillacorn.proofs.addresses.gillacorn_internal_rva_to_section_offset.Statement.{
   statement,
@@ -11,12 +11,12 @@ use Rattle.gillacorn.proofs.addresses.gillacorn_internal_rva_to_section
 to-section-offset-requires : tie.Need-to-section-offset-requires
 to-section-offset-requires c κs = search needs
 
-section-offset-answer-requires : tie.Need-section-offset-answer-requires
-section-offset-answer-requires c κs = search needs
+offset-of-requires : tie.Need-offset-of-requires
+offset-of-requires c κs = search needs
 
 returns : tie.Need-returns
-returns c = c .section-offset-answer .ensures ∙ ap offsetAnswer (c .before .to-section-offset .ensures)
+returns c = c .offset-of .ensures ∙ ap offsetAnswer (c .before .to-section-offset .ensures)
 
 pub gillacorn-internal-rva-to-section-offset-spec : {M : Type 1} → statement M
 gillacorn-internal-rva-to-section-offset-spec =
-    tie.close (tie.spec to-section-offset-requires section-offset-answer-requires returns)
+    tie.close (tie.spec to-section-offset-requires offset-of-requires returns)

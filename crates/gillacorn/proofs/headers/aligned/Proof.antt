@@ -1,9 +1,5 @@
 -- `gillacorn::headers::aligned` meets its contract: case by case.
 -- Assumes nothing.
-use mathlib.Core.Path.{sym, ap}
-use Rattle.pe.specs.declared.characteristics.Alignment.{Alignment}
-use Rattle.pe.specs.Flags.{toldAlignment}
-use Rattle.gillacorn.specs.Code.{valueOf}
 use borrow.Author.Needs.{needs}
 use Rattle.gillacorn.proofs.headers.aligned.Statement.{statement}
 use Rattle.gillacorn.proofs.headers.aligned.Tie as tie
@@ -18,10 +14,10 @@ enum-told : tie.Need-enum-told
 enum-told c = search needs
 
 returns : tie.Need-returns
-returns c = sym (ap (λ (t : Alignment). valueOf (toldAlignment t)) (c .before .alignment .given .1))
+returns c = rw (c .before .alignment .given .1)
 
 returns-2 : tie.Need-returns-2
-returns-2 c = sym (ap (λ (t : Alignment). valueOf (toldAlignment t)) (c .enum-told .given .1))
+returns-2 c = rw (c .enum-told .given .1)
 
 pub aligned-spec : {M : Type 1} → statement M
 aligned-spec = tie.close (tie.spec enum-known-alignment cast-t4 enum-told returns returns-2)

@@ -1,9 +1,5 @@
 -- `gillacorn::headers::code_of` meets its contract: case by case.
 -- Assumes nothing.
-use mathlib.Core.Path.{sym, ap, _∙_}
-use Rattle.pe.specs.declared.header.Given.{Given}
-use Rattle.pe.specs.Header.{toldGiven}
-use Rattle.gillacorn.specs.Code.{codeOf}
 use borrow.Author.Needs.{needs}
 use Rattle.gillacorn.proofs.headers.code_of.Statement.{statement}
 use Rattle.gillacorn.proofs.headers.code_of.Tie as tie
@@ -17,17 +13,17 @@ enum-told-2 c = search needs
 enum-known-given : tie.Need-enum-known-given
 enum-known-given c = search needs
 
-number-of-requires : tie.Need-number-of-requires
-number-of-requires c κs = search needs
+refusal-number-requires : tie.Need-refusal-number-requires
+refusal-number-requires c κs = search needs
 
 returns : tie.Need-returns
-returns c = λ h. sym (ap (λ (t : Given). codeOf (toldGiven t h)) (c .enum-told .given .1))
+returns c = λ h. rw (c .enum-told .given .1)
 
 returns-2 : tie.Need-returns-2
-returns-2 c = λ h. sym (ap (λ (t : Given). codeOf (toldGiven t h)) (c .enum-told2 .given .1))
+returns-2 c = λ h. rw (c .enum-told2 .given .1)
 
 returns-3 : tie.Need-returns-3
-returns-3 c = λ h. c .number-of .ensures ∙ sym (ap (λ (t : Given). codeOf (toldGiven t h)) (c .before .before .given .given .1))
+returns-3 c = λ h. rw (c .before .before .given .given .1) (c .refusal-number .ensures)
 
 pub code-of-spec : {M : Type 1} → statement M
 code-of-spec =
@@ -36,7 +32,7 @@ code-of-spec =
     enum-told
     enum-told-2
     enum-known-given
-    number-of-requires
+    refusal-number-requires
     returns
     returns-2
     returns-3)

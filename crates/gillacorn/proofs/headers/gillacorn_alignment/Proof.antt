@@ -1,4 +1,4 @@
--- `gillacorn::headers::gillacorn_alignment` meets its contract: the answer of the library, as the face shows it.
+-- `gillacorn_alignment` meets its contract: the library's answer, as the face shows it.
 -- Assumes nothing.
 use mathlib.Core.Path.{ap, _∙_}
 use Rattle.gillacorn.specs.Code.{valueOf}

@@ -65,7 +65,7 @@ write-requires : tie.Need-write-requires
 write-requires c κs = search needs
 
 returns : tie.Need-returns
-returns c = rw (c .before .before .before .before .before .before .before .before .before .before .before .before .before .before .before .before .before .before .before .executable .ensures, c .before .before .before .before .before .before .before .before .before .before .before .before .before .before .before .before .before .before .initialized-data .ensures, c .before .before .before .before .before .before .before .before .before .before .before .before .before .before .before .before .before .uninitialized-data .ensures, c .before .before .before .before .before .before .before .before .before .before .before .before .before .before .before .before .other .ensures, c .before .before .before .before .before .before .before .before .before .before .before .before .before .before .before .info .ensures, c .before .before .before .before .before .before .before .before .before .before .before .before .before .before .remove .ensures, c .before .before .before .before .before .before .before .before .before .before .before .before .before .comdat .ensures, c .before .before .before .before .before .before .before .before .before .before .before .before .defer-speculative-exceptions .ensures, c .before .before .before .before .before .before .before .before .before .before .before .global-pointer-relative .ensures, c .before .before .before .before .before .before .before .before .before .before .purgeable .ensures, c .before .before .before .before .before .before .before .before .before .locked .ensures, c .before .before .before .before .before .before .before .before .preload .ensures, c .before .before .before .before .before .before .before .lnk-nreloc-ovfl .ensures, c .before .before .before .before .before .before .discardable .ensures, c .before .before .before .before .before .not-cached .ensures, c .before .before .before .before .not-paged .ensures, c .before .before .before .shared .ensures, c .before .before .execute .ensures, c .before .read .ensures, c .write .ensures)
+returns c = cc
 
 pub gillacorn-characteristics-spec : {M : Type 1} → statement M
 gillacorn-characteristics-spec =

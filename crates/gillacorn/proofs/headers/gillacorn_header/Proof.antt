@@ -1,8 +1,6 @@
 -- `gillacorn::headers::gillacorn_header` meets its contract: the header of the library beside its code.
 -- Assumes nothing.
-use mathlib.Core.Path.{_≡_, ap, _∙_}
-use denote.Ref.{now}
-use Rattle.pe.specs.Header.{headerSpec}
+use mathlib.Core.Path.{ap, _∙_}
 use Rattle.gillacorn.specs.Code.{codeOf}
 use borrow.Author.Needs.{needs}
 use Rattle.gillacorn.proofs.headers.gillacorn_header.Statement.{statement}
@@ -16,10 +14,8 @@ code-of-requires c κs = search needs
 
 returns : tie.Need-returns
 returns c =
-    let a = c .before .before .before .before .args in
     let h = c .before .before .header-at in
-    let code : c .code-of .result ≡ codeOf (headerSpec (now (a .table)) (a .place)) = c .code-of .ensures (h .result .header) ∙ ap codeOf (h .ensures .told) in
-    rw (code, h .ensures .beside)
+    rw (c .code-of .ensures (h .result .header) ∙ ap codeOf (h .ensures .told), h .ensures .beside)
 
 pub gillacorn-header-spec : {M : Type 1} → statement M
 gillacorn-header-spec = tie.close (tie.spec header-at-requires code-of-requires returns)

@@ -2,7 +2,6 @@
 -- Assumes nothing.
 use Rattle.pe.specs.Header.{headerAt}
 use native.Mathlib.Nat.{add-zero}
-use Prim.Native.Nat.{_*_}
 use native.Mathlib.Omega.{arith}
 use Rattle.pe.proofs.header.decoded.Statement.{statement}
 use Rattle.pe.proofs.header.decoded.Tie as tie
@@ -69,7 +68,7 @@ u32-at-requires-7 c κs = omega arith
 
 returns : tie.Need-returns
 unfolding headerAt
-returns c = cc (add-zero (40 * c .before .before .before .before .before .before .before .before .before .before .before .args .place))
+returns c = simp add-zero (cc)
 
 pub decoded-spec : {M : Type 1} → statement M
 decoded-spec =

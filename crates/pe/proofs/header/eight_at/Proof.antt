@@ -53,7 +53,8 @@ shared-slice-read-t25 c = omega arith
 
 returns : tie.Need-returns
 returns c =
-    let a = c .before .before .before .before .before .before .before .before .args in
+    let half = c .before .before .before .before in
+    let a = half .before .before .before .before .args in
     eight (now (a .s)) (a .at) (omega arith)
 
 pub eight-at-spec : {M : Type 1} → statement M

@@ -19,8 +19,8 @@ enum-known-shaped c = search needs
 returns : tie.Need-returns
 returns c =
     let a = c .before .before .before .before .before .args in
-    let why = c .before .shaped .given .0 .0 in
-    header-refused (now (a .table)) (a .place) (number why) (sym (ap toldChecked (c .before .shaped .given .1)) ∙ c .before .before .before .section-shape .ensures)
+    header-refused (now (a .table)) (a .place) (number (c .before .shaped .given .0 .0))
+    (sym (ap toldChecked (c .before .shaped .given .1)) ∙ c .before .before .before .section-shape .ensures)
 
 enum-told : tie.Need-enum-told
 enum-told c = search needs

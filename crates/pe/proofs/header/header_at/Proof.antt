@@ -34,18 +34,25 @@ no-header-requires-2 c κs = search needs
 
 returns : tie.Need-returns
 returns c =
-    let a = c .before .before .before .before .before .args in
-    heads given.Header (c .before .before .before .given-at .result) (headerAt (now (a .table)) (a .place)) _ (c .before .enum-told .given .1) (c .before .before .before .given-at .ensures) _ refl (c .decoded .ensures)
+    let flag = c .before .before .before in
+    let a = flag .before .before .args in
+    heads given.Header (flag .given-at .result) (headerAt (now (a .table)) (a .place)) _
+    (c .before .enum-told .given .1) (flag .given-at .ensures) _ refl (c .decoded .ensures)
 
 returns-2 : tie.Need-returns-2
 returns-2 c =
-    let a = c .before .before .before .before .before .args in
-    heads given.Nothing (c .before .before .before .given-at .result) (headerAt (now (a .table)) (a .place)) _ (c .before .enum-told2 .given .1) (c .before .before .before .given-at .ensures) _ (c .no-header .ensures .0) (c .no-header .ensures .1)
+    let flag = c .before .before .before in
+    let a = flag .before .before .args in
+    heads given.Nothing (flag .given-at .result) (headerAt (now (a .table)) (a .place)) _
+    (c .before .enum-told2 .given .1) (flag .given-at .ensures) _ (c .no-header .ensures .0) (c .no-header .ensures .1)
 
 returns-3 : tie.Need-returns-3
 returns-3 c =
-    let a = c .before .before .before .before .before .before .args in
-    heads (given.Refused (c .before .before .given .given .0 .0)) (c .before .before .before .before .given-at .result) (headerAt (now (a .table)) (a .place)) _ (c .before .before .given .given .1) (c .before .before .before .before .given-at .ensures) _ (c .no-header2 .ensures .0) (c .no-header2 .ensures .1)
+    let flag = c .before .before .before .before in
+    let a = flag .before .before .args in
+    let refused = c .before .before .given .given in
+    heads (given.Refused (refused .0 .0)) (flag .given-at .result) (headerAt (now (a .table)) (a .place)) _
+    (refused .1) (flag .given-at .ensures) _ (c .no-header2 .ensures .0) (c .no-header2 .ensures .1)
 
 pub header-at-spec : {M : Type 1} → statement M
 header-at-spec =

@@ -41,7 +41,8 @@ returns-8 c = led _ 0xEE 2 refl (c .before .before .before .before .before .befo
 
 returns-9 : tie.Need-returns-9
 unfolding afterLead
-returns-9 c = led _ 0xF1 3 refl (c .before .before .before .before .before .before .before .args .b) (omega arith) (omega arith)
+returns-9 c =
+    led _ 0xF1 3 refl (c .before .before .before .before .before .before .before .args .b) (omega arith) (omega arith)
 
 returns-10 : tie.Need-returns-10
 unfolding afterLead
@@ -49,7 +50,8 @@ returns-10 c = led _ 0x80 66 refl (c .before .before .before .args .b) (omega ar
 
 returns-11 : tie.Need-returns-11
 unfolding afterLead
-returns-11 c = led _ 0xF5 11 refl (c .before .before .before .before .before .before .before .args .b) (omega arith) (omega arith)
+returns-11 c =
+    led _ 0xF5 11 refl (c .before .before .before .before .before .before .before .args .b) (omega arith) (omega arith)
 
 pub lead-spec : {M : Type 1} → statement M
 lead-spec =

@@ -20,7 +20,8 @@ slice-aggregate-result c = search needs
 returns : tie.Need-returns
 returns c =
     let a = c .before .before .before .before .args in
-    no-length (nameSpec (now (a .table)) (a .number)) (sym (c .before .before .name-length .ensures) ∙ c .before .if1 .taken)
+    no-length (nameSpec (now (a .table)) (a .number))
+    (sym (c .before .before .name-length .ensures) ∙ c .before .if1 .taken)
 
 sub-from : tie.Need-sub-from
 sub-from c =

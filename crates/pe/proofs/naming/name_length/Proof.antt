@@ -31,8 +31,9 @@ mul-held-length c = search needs
 
 held-length-requires : tie.Need-held-length-requires
 held-length-requires c κs =
-    let a = c .before .before .before .before .before .args in
-    omega (arith, flagged (now (a .table)) (a .number - 1) _ (c .enum-told .given .1) (c .before .before .given-at .ensures))
+    let flag = c .before .before in
+    let a = flag .before .before .before .args in
+    omega (arith, flagged (now (a .table)) (a .number - 1) _ (c .enum-told .given .1) (flag .given-at .ensures))
 
 enum-told-2 : tie.Need-enum-told-2
 enum-told-2 c = search needs
@@ -42,20 +43,27 @@ enum-told-3 c = search needs
 
 returns-2 : tie.Need-returns-2
 returns-2 c =
-    let a = c .before .before .before .before .before .before .args in
+    let flag = c .before .before .before in
+    let a = flag .before .before .before .args in
     let s = now (a .table) in
-    c .held-length .ensures
-    ∙ ap length (name-held s (a .number - 1) ∙ name-given s (a .number) given.Header _ (omega arith) (c .before .enum-told .given .1) (c .before .before .before .given-at .ensures))
+    let i = a .number - 1 in
+    let there = name-given s (a .number) given.Header _ (omega arith) (c .before .enum-told .given .1) in
+    c .held-length .ensures ∙ ap length (name-held s i ∙ there (flag .given-at .ensures))
 
 returns-3 : tie.Need-returns-3
 returns-3 c =
-    let a = c .before .before .before .before .before .args in
-    ap length (name-given (now (a .table)) (a .number) given.Nothing _ (omega arith) (c .enum-told2 .given .1) (c .before .before .given-at .ensures))
+    let flag = c .before .before in
+    let a = flag .before .before .before .args in
+    let none-there = name-given (now (a .table)) (a .number) given.Nothing _ (omega arith) (c .enum-told2 .given .1) in
+    ap length (none-there (flag .given-at .ensures))
 
 returns-4 : tie.Need-returns-4
 returns-4 c =
-    let a = c .before .before .before .before .before .args in
-    ap length (name-given (now (a .table)) (a .number) (given.Refused _) _ (omega arith) (c .enum-told3 .given .1) (c .before .before .given-at .ensures))
+    let flag = c .before .before in
+    let a = flag .before .before .before .args in
+    let s = now (a .table) in
+    let no-table = name-given s (a .number) (given.Refused _) _ (omega arith) (c .enum-told3 .given .1) in
+    ap length (no-table (flag .given-at .ensures))
 
 pub name-length-spec : {M : Type 1} → statement M
 name-length-spec =

@@ -28,7 +28,8 @@ returns-3 c =
 returns-4 : tie.Need-returns-4
 returns-4 c =
     let x = c .before .before .before .before .before .args .self .0 in
-    all-bits x (sym (c .before .before .before .is-set .ensures) ∙ c .before .before .if1 .left) (omega arith) (omega arith)
+    let no-pad = sym (c .before .before .before .is-set .ensures) ∙ c .before .before .if1 .left in
+    all-bits x no-pad (omega arith) (omega arith)
 
 sub-t3 : tie.Need-sub-t3
 sub-t3 c = search needs
@@ -42,7 +43,8 @@ shl-t8 c = search needs
 returns-5 : tie.Need-returns-5
 returns-5 c =
     let x = c .before .before .before .before .before .args .self .0 in
-    by-bits x (sym (c .before .before .before .is-set .ensures) ∙ c .before .before .if1 .left) (omega arith) (omega arith)
+    let no-pad = sym (c .before .before .before .is-set .ensures) ∙ c .before .before .if1 .left in
+    by-bits x no-pad (omega arith) (omega arith)
 
 pub alignment-spec : {M : Type 1} → statement M
 alignment-spec =

@@ -1,8 +1,7 @@
 -- What the face shows of a place in a section.
-use Prim.Native.Nat.{ℕ}
 use Rattle.lent.specs.Paper.{Told, value, nothing, refused}
 use Rattle.address_map.specs.Sections.{Offset}
-use Rattle.gillacorn.specs.declared.addresses.OffsetAnswer.{OffsetAnswer}
+use Rattle.gillacorn.specs.declared.sections.OffsetAnswer.{OffsetAnswer}
 
 abbrev pub offsetAnswer : Told Offset → OffsetAnswer
 offsetAnswer (value x) = record { code = 0; section = x .section; offset = x .offset }

@@ -1,10 +1,10 @@
--- `gillacorn::addresses::gillacorn_virtual_address` meets its contract: the answer of the library, as the face shows it.
+-- `gillacorn_virtual_address` meets its contract: the library's answer, as the face shows it.
 -- Assumes nothing.
 use mathlib.Core.Path.{ap, _∙_}
 use Rattle.gillacorn.specs.Code.{valueOf}
 use borrow.Author.Needs.{needs}
-use Rattle.gillacorn.proofs.addresses.gillacorn_virtual_address.Statement.{statement}
-use Rattle.gillacorn.proofs.addresses.gillacorn_virtual_address.Tie as tie
+use Rattle.gillacorn.proofs.sections.gillacorn_virtual_address.Statement.{statement}
+use Rattle.gillacorn.proofs.sections.gillacorn_virtual_address.Tie as tie
 
 get-virtual-address-requires : tie.Need-get-virtual-address-requires
 get-virtual-address-requires c κs = search needs

@@ -1,8 +1,8 @@
--- `pe::follows` meets its contract.
+-- `pe::within` meets its contract.
 -- Assumes nothing.
 use borrow.Author.Tests.{le-leb, lt-leb}
-use Rattle.pe.proofs.naming.follows.Statement.{statement}
-use Rattle.pe.proofs.naming.follows.Tie as tie
+use Rattle.pe.proofs.naming.within.Statement.{statement}
+use Rattle.pe.proofs.naming.within.Tie as tie
 
 returns : tie.Need-returns
 returns c = rw (le-leb (c .before .args .low) (c .before .args .b) (c .if1 .taken))
@@ -10,5 +10,5 @@ returns c = rw (le-leb (c .before .args .low) (c .before .args .b) (c .if1 .take
 returns-2 : tie.Need-returns-2
 returns-2 c = rw (lt-leb (c .before .args .low) (c .before .args .b) (c .if1 .left))
 
-pub follows-spec : {M : Type 1} → statement M
-follows-spec = tie.close (tie.spec returns returns-2)
+pub within-spec : {M : Type 1} → statement M
+within-spec = tie.close (tie.spec returns returns-2)
