@@ -1,25 +1,28 @@
 -- The theorems of this crate: what an iteration yields, from the start or from any cursor.
 --   `iteration`          the steps from (0, 0) yield the merge of the two tables, frame by frame, and then the end
---   `iteration-from`     the same from any cursor, over the records from its places on
+--   `iteration-refused`  where a frame is too large, they yield those before it and then refusal 4, and stay there
+--   `iteration-from`, `iteration-from-refused`
+--                        the same from any cursor, over the records from its places on
 --   `all-new`, `all-old` every new frame once and in order; every old one too, but those passed over for an equal new one
 --   `starts-rise`        where both tables rise strictly, the yielded code starts rise strictly
 -- Assumes nothing.
 use mathlib.Core.Path.{_≡_, refl, sym, ap, _∙_, subst}
 use mathlib.Core.Logic.{⊎-elim}
-use Prim.Native.Nat.{ℕ, suc, _+_, _/_, _≤_, _<_}
-use mathlib.Core.Bool.{true}
+use Prim.Native.Nat.{ℕ, zero, suc, _+_, _/_, _≤_, _<_}
+use native.Mathlib.Nat.{zero-add, suc-add}
+use mathlib.Core.Bool.{true, false, cond}
 use mathlib.Core.List.{List, [], _∷_}
 use mathlib.Core.Option.{Option, none, some}
-use lib.ListN.{length}
-use Rattle.lent.specs.Paper.{Told, value, nothing}
+use lib.ListN.{length, replicate}
+use Rattle.lent.specs.Paper.{Told, value, nothing, refused}
 use Rattle.lent.specs.Order.{rising, keys}
-use Rattle.lent.proofs.Logic.{lt-or-le, and-left, and-right}
+use Rattle.lent.proofs.Logic.{which, lt-or-le, and-left, and-right}
 use Rattle.lent.proofs.Place.{listed-step, listed-end, listed-all, map-listed}
 use Rattle.framedata.specs.Records.{OldFrame, NewFrame, oldRecord, newRecord, oldAt, newAt, olds, news}
-use Rattle.framedata.specs.Frame.{Frame, fits}
+use Rattle.framedata.specs.Frame.{Frame}
 use Rattle.framedata.specs.Tables.{shapeOfBoth}
-use Rattle.framedata.specs.Step.{Pick, old, new, both, pick, atStart, frameOf, past, handed, stepSpec}
-use Rattle.framedata.specs.Merge.{followed, merge, oldsFrom, newsFrom, left, frame, allFit, answers, told, startsOf, newsOf, oldsOf, passedOnEquality}
+use Rattle.framedata.specs.Step.{Pick, old, new, both, pick, atStart, Stepped, frame, pickFits, frameOf, past, handed, stepSpec}
+use Rattle.framedata.specs.Merge.{followed, merge, oldsFrom, newsFrom, left, allFit, untilTooLarge, answers, cursorAfter, YieldsThen, startsOf, newsOf, oldsOf, passedOnEquality}
 use Rattle.framedata.specs.declared.cursor.FrameCursor.{FrameCursor}
 use Rattle.framedata.proofs.Picking.{none-left, only-new, only-old, two-left}
 use Rattle.framedata.proofs.Merging.{by-lesser, every-new, every-old, passed-on-equality, merge-rises}
@@ -82,6 +85,13 @@ module _ (s t : List ℕ) where
         (λ (h : n ≤ i). ⊎-elim (left-new h) (left-none h) (lt-or-le j m))
         (lt-or-le i n)
 
+  -- at (0, 0) all is left
+  pub from-start : left s t atStart ≡ merge (olds s) (news t)
+  from-start =
+      sym
+      (ap (λ (x : List OldFrame). merge x (news t)) (listed-all (oldRecord s) (length s / 16))
+      ∙ ap (λ (y : List NewFrame). merge (oldsFrom s 0) y) (listed-all (newRecord t) (length t / 32)))
+
   no-pick : (c : FrameCursor) (x : Option Pick) → unrolled c x ≡ [] → x ≡ none
   no-pick c none e = refl
   no-pick c (some p) e = cc
@@ -93,42 +103,78 @@ module _ (s t : List ℕ) where
       let r : left s t (past c q) ≡ l = cc in
       (ap some g, subst (λ (x : Pick). left s t (past c x) ≡ l) g r)
 
--- a frame that fits is yielded as it is
-fit-frame : (p : Pick) (l : List Pick) → allFit (p ∷ l) ≡ true → (frameOf p ≡ value (frame p)) × (allFit l ≡ true)
-unfolding allFit
-fit-frame (old o) l r = (rw (and-left (fits o) (allFit l) r), and-right (fits o) (allFit l) r)
-fit-frame (new n) l r = (refl, r)
-fit-frame (both n o) l r = (refl, r)
+-- where no frame is too large, all come before the first that is
+all-until : (l : List Pick) → allFit l ≡ true → untilTooLarge l ≡ l
+unfolding allFit untilTooLarge
+all-until [] f = refl
+all-until (p ∷ l) f =
+    rw (and-left (pickFits p) (allFit l) f) (ap (λ (r : List Pick). p ∷ r) (all-until l (and-right (pickFits p) (allFit l) f)))
 
-module _ (s t : List ℕ) (good : shapeOfBoth s t ≡ none) where
-  step-end : (c : FrameCursor) → here s t c ≡ none → stepSpec s t c ≡ handed c c nothing
-  unfolding stepSpec
-  step-end c e = rw (good, e)
+module _ (s t : List ℕ) where
+  -- where a step answers x and hands its cursor back, so do all further ones
+  again : (c : FrameCursor) (x : Told Frame) → stepSpec s t c ≡ record { answer = x; cursor = c } → (k : ℕ)
+      → (answers k s t c ≡ replicate k x) × (cursorAfter k s t c ≡ c)
+  unfolding answers cursorAfter
+  again c x e zero = (refl, refl)
+  again c x e (suc k) =
+      let r = again c x e k in
+      (rw e (ap (λ (l : List (Told Frame)). x ∷ l) (r .0)), rw e (r .1))
 
-  step-pick : (c : FrameCursor) (p : Pick) → here s t c ≡ some p → stepSpec s t c ≡ handed c (past c p) (frameOf p)
-  unfolding stepSpec
-  step-pick c p e = rw (good, e)
+  yields-none : (c : FrameCursor) (x : Told Frame) → stepSpec s t c ≡ record { answer = x; cursor = c } → YieldsThen s t c [] x
+  unfolding cursorAfter
+  yields-none c x e =
+      record { told = λ k. rw (zero-add k) (again c x e k .0); stays = λ k. rw (zero-add k) (again c x e k .1) }
 
-  steps : (l : List Pick) (c : FrameCursor) → left s t c ≡ l → allFit l ≡ true → answers (suc (length l)) s t c ≡ told l
-  unfolding answers
-  steps [] c e f = rw (step-end c (no-pick s t c (here s t c) (sym (left-step s t c) ∙ e)))
-  steps (p ∷ l) c e f =
-      let g = a-pick s t c (here s t c) p l (sym (left-step s t c) ∙ e) in
-      let k = fit-frame p l f in
-      let st : stepSpec s t c ≡ record { answer = value (frame p); cursor = past c p } = step-pick c p (g .0) ∙ ap (handed c (past c p)) (k .0) in
-      rw st (ap (λ (r : List (Told Frame)). value (frame p) ∷ r) (steps l (past c p) (g .1) (k .1)))
+  yields-one : (c d : FrameCursor) (p : Pick) (l : List Pick) (x : Told Frame)
+      → stepSpec s t c ≡ record { answer = value (frame p); cursor = d } → YieldsThen s t d l x → YieldsThen s t c (p ∷ l) x
+  unfolding answers cursorAfter
+  yields-one c d p l x e y =
+      let on : (k : ℕ) → cursorAfter (suc k) s t c ≡ cursorAfter k s t d = λ k. ap (λ (r : Stepped). cursorAfter k s t (r .cursor)) e in
+      record {
+        told = λ k. rw (suc-add (length l) k, e) (ap (λ (r : List (Told Frame)). value (frame p) ∷ r) (y .told k));
+        stays = λ k. rw (suc-add (length l) k) (on (length l + k) ∙ y .stays k ∙ sym (on (length l)));
+      }
 
-  -- from any cursor: the merge of the records from its places on, each frame once, and then the end
-  pub iteration-from : (c : FrameCursor) → allFit (left s t c) ≡ true → answers (suc (length (left s t c))) s t c ≡ told (left s t c)
-  iteration-from c f = steps (left s t c) c refl f
+  module _ (good : shapeOfBoth s t ≡ none) where
+    step-end : (c : FrameCursor) → here s t c ≡ none → stepSpec s t c ≡ handed c c nothing
+    unfolding stepSpec
+    step-end c e = rw (good, e)
 
-  -- from (0, 0): the merge of the two tables
-  pub iteration : allFit (merge (olds s) (news t)) ≡ true → answers (suc (length (merge (olds s) (news t)))) s t atStart ≡ told (merge (olds s) (news t))
-  iteration f =
-      let e : left s t atStart ≡ merge (olds s) (news t)
-      = sym (ap (λ (x : List OldFrame). merge x (news t)) (listed-all (oldRecord s) (length s / 16))
-      ∙ ap (λ (y : List NewFrame). merge (oldsFrom s 0) y) (listed-all (newRecord t) (length t / 32))) in
-      steps (merge (olds s) (news t)) atStart e f
+    step-pick : (c : FrameCursor) (p : Pick) → here s t c ≡ some p → stepSpec s t c ≡ handed c (past c p) (frameOf p)
+    unfolding stepSpec
+    step-pick c p e = rw (good, e)
+
+    steps : (l : List Pick) (c : FrameCursor) → left s t c ≡ l → YieldsThen s t c (untilTooLarge l) (cond (allFit l) nothing (refused 4))
+    unfolding allFit untilTooLarge
+    steps [] c e = yields-none c nothing (step-end c (no-pick s t c (here s t c) (sym (left-step s t c) ∙ e)))
+    steps (p ∷ l) c e =
+        let g = a-pick s t c (here s t c) p l (sym (left-step s t c) ∙ e) in
+        ⊎-elim
+        (λ (f : pickFits p ≡ true).
+        rw f
+        (yields-one c (past c p) p (untilTooLarge l) (cond (allFit l) nothing (refused 4)) (rw f at (step-pick c p (g .0)))
+        (steps l (past c p) (g .1))))
+        (λ (f : pickFits p ≡ false). rw f (yields-none c (refused 4) (rw f at (step-pick c p (g .0)))))
+        (which (pickFits p))
+
+    -- from any cursor: the merge of the records from its places on, each frame once, and then the end ..
+    pub iteration-from : (c : FrameCursor) → allFit (left s t c) ≡ true → YieldsThen s t c (left s t c) nothing
+    iteration-from c f = rw (f, all-until (left s t c) f) at (steps (left s t c) c refl)
+
+    -- .. or, where a frame is too large, the frames before the first that is, and then refusal 4
+    pub iteration-from-refused : (c : FrameCursor) → allFit (left s t c) ≡ false
+        → YieldsThen s t c (untilTooLarge (left s t c)) (refused 4)
+    iteration-from-refused c f = rw f at (steps (left s t c) c refl)
+
+    -- from (0, 0): the merge of the two tables
+    pub iteration : allFit (merge (olds s) (news t)) ≡ true → YieldsThen s t atStart (merge (olds s) (news t)) nothing
+    iteration = subst (λ (l : List Pick). allFit l ≡ true → YieldsThen s t atStart l nothing) (from-start s t) (iteration-from atStart)
+
+    pub iteration-refused : allFit (merge (olds s) (news t)) ≡ false
+        → YieldsThen s t atStart (untilTooLarge (merge (olds s) (news t))) (refused 4)
+    iteration-refused =
+        subst (λ (l : List Pick). allFit l ≡ false → YieldsThen s t atStart (untilTooLarge l) (refused 4)) (from-start s t)
+        (iteration-from-refused atStart)
 
 module _ (s t : List ℕ) where
   -- every new frame exactly once and in order
@@ -147,5 +193,5 @@ module _ (s t : List ℕ) where
   pub starts-rise : rising (keys 16 s) ≡ true → rising (keys 32 t) ≡ true → rising (startsOf (merge (olds s) (news t))) ≡ true
   starts-rise r q =
       merge-rises (olds s) (news t)
-      (ap rising (map-listed (λ (o : OldFrame). o .codeStart) (oldRecord s) 0 (length s / 16)) ∙ r)
-      (ap rising (map-listed (λ (n : NewFrame). n .codeStart) (newRecord t) 0 (length t / 32)) ∙ q)
+      (ap rising (map-listed (λ (o : OldFrame). o .span .codeStart) (oldRecord s) 0 (length s / 16)) ∙ r)
+      (ap rising (map-listed (λ (n : NewFrame). n .span .codeStart) (newRecord t) 0 (length t / 32)) ∙ q)

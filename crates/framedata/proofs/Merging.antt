@@ -19,22 +19,22 @@ use Rattle.framedata.proofs.Picking.{old-lesser, new-lesser, equal}
 
 -- to show a thing of the lesser of two records, show it in three cases
 pub by-lesser : (P : Pick → Type 0) (o : OldFrame) (n : NewFrame)
-    → (o .codeStart < n .codeStart → P (old o)) → (n .codeStart < o .codeStart → P (new n)) → (n .codeStart ≡ o .codeStart → P (both n o)) → P (lesser o n)
+    → (o .span .codeStart < n .span .codeStart → P (old o)) → (n .span .codeStart < o .span .codeStart → P (new n)) → (n .span .codeStart ≡ o .span .codeStart → P (both n o)) → P (lesser o n)
 by-lesser P o n below above same =
     ⊎-elim
-    (λ (h : o .codeStart < n .codeStart). subst P (sym (old-lesser o n h)) (below h))
-    (λ (h : n .codeStart ≤ o .codeStart).
+    (λ (h : o .span .codeStart < n .span .codeStart). subst P (sym (old-lesser o n h)) (below h))
+    (λ (h : n .span .codeStart ≤ o .span .codeStart).
     ⊎-elim
-    (λ (l : n .codeStart < o .codeStart). subst P (sym (new-lesser o n l)) (above l))
-    (λ (l : o .codeStart ≤ n .codeStart). let e : n .codeStart ≡ o .codeStart = omega arith in subst P (sym (equal o n e)) (same e))
-    (lt-or-le (n .codeStart) (o .codeStart)))
-    (lt-or-le (o .codeStart) (n .codeStart))
+    (λ (l : n .span .codeStart < o .span .codeStart). subst P (sym (new-lesser o n l)) (above l))
+    (λ (l : o .span .codeStart ≤ n .span .codeStart). let e : n .span .codeStart ≡ o .span .codeStart = omega arith in subst P (sym (equal o n e)) (same e))
+    (lt-or-le (n .span .codeStart) (o .span .codeStart)))
+    (lt-or-le (o .span .codeStart) (n .span .codeStart))
 
 abbrev pub oldStarts : List OldFrame → List ℕ
-oldStarts os = map (λ (o : OldFrame). o .codeStart) os
+oldStarts os = map (λ (o : OldFrame). o .span .codeStart) os
 
 abbrev pub newStarts : List NewFrame → List ℕ
-newStarts ns = map (λ (n : NewFrame). n .codeStart) ns
+newStarts ns = map (λ (n : NewFrame). n .span .codeStart) ns
 
 -- the first number, if there is one, is greater than x
 abbrev startsAfter : ℕ → List ℕ → Bool
@@ -44,9 +44,9 @@ startsAfter x (y ∷ l) = ltb x y
 -- to show a thing of a merge, show it of no records, and that it is kept by each kind of pick
 by-merge : (P : List OldFrame → List NewFrame → List Pick → Type 0)
     → P [] [] []
-    → ((o : OldFrame) (os : List OldFrame) (ns : List NewFrame) (l : List Pick) → startsAfter (o .codeStart) (newStarts ns) ≡ true → P os ns l → P (o ∷ os) ns (old o ∷ l))
-    → ((n : NewFrame) (os : List OldFrame) (ns : List NewFrame) (l : List Pick) → startsAfter (n .codeStart) (oldStarts os) ≡ true → P os ns l → P os (n ∷ ns) (new n ∷ l))
-    → ((n : NewFrame) (o : OldFrame) (os : List OldFrame) (ns : List NewFrame) (l : List Pick) → n .codeStart ≡ o .codeStart → P os ns l → P (o ∷ os) (n ∷ ns) (both n o ∷ l))
+    → ((o : OldFrame) (os : List OldFrame) (ns : List NewFrame) (l : List Pick) → startsAfter (o .span .codeStart) (newStarts ns) ≡ true → P os ns l → P (o ∷ os) ns (old o ∷ l))
+    → ((n : NewFrame) (os : List OldFrame) (ns : List NewFrame) (l : List Pick) → startsAfter (n .span .codeStart) (oldStarts os) ≡ true → P os ns l → P os (n ∷ ns) (new n ∷ l))
+    → ((n : NewFrame) (o : OldFrame) (os : List OldFrame) (ns : List NewFrame) (l : List Pick) → n .span .codeStart ≡ o .span .codeStart → P os ns l → P (o ∷ os) (n ∷ ns) (both n o ∷ l))
     → (os : List OldFrame) (ns : List NewFrame) → P os ns (merge os ns)
 unfolding merge
 by-merge P none one two three [] [] = none
@@ -54,8 +54,8 @@ by-merge P none one two three [] (n ∷ ns) = two n [] ns (merge [] ns) refl (by
 by-merge P none one two three (o ∷ os) [] = one o os [] (merge os []) refl (by-merge P none one two three os [])
 by-merge P none one two three (o ∷ os) (n ∷ ns) =
     by-lesser (λ (p : Pick). P (o ∷ os) (n ∷ ns) (followed p (merge os (n ∷ ns)) (merge (o ∷ os) ns) (merge os ns))) o n
-    (λ h. one o os (n ∷ ns) (merge os (n ∷ ns)) (lt-ltb (o .codeStart) (n .codeStart) h) (by-merge P none one two three os (n ∷ ns)))
-    (λ h. two n (o ∷ os) ns (merge (o ∷ os) ns) (lt-ltb (n .codeStart) (o .codeStart) h) (by-merge P none one two three (o ∷ os) ns))
+    (λ h. one o os (n ∷ ns) (merge os (n ∷ ns)) (lt-ltb (o .span .codeStart) (n .span .codeStart) h) (by-merge P none one two three os (n ∷ ns)))
+    (λ h. two n (o ∷ os) ns (merge (o ∷ os) ns) (lt-ltb (n .span .codeStart) (o .span .codeStart) h) (by-merge P none one two three (o ∷ os) ns))
     (λ e. three n o os ns (merge os ns) e (by-merge P none one two three os ns))
 
 -- every new record is yielded, once and in order
@@ -83,7 +83,7 @@ passed-on-equality =
     by-merge (λ os ns l. passedOnEquality l ≡ true) refl
     (λ o os ns l h k. k)
     (λ n os ns l h k. k)
-    (λ n o os ns l e k. rw (eq-eqb (n .codeStart) (o .codeStart) e) k)
+    (λ n o os ns l e k. rw (eq-eqb (n .span .codeStart) (o .span .codeStart) e) k)
 
 module _ (p x : ℕ) (l : List ℕ) where
   up : risingAfter p (x ∷ l) ≡ true → p < x
@@ -108,31 +108,31 @@ pub record Rises (os : List OldFrame) (ns : List NewFrame) (l : List Pick) : Typ
   pub after : (p : ℕ) → risingAfter p (oldStarts os) ≡ true → risingAfter p (newStarts ns) ≡ true → risingAfter p (startsOf l) ≡ true
   pub whole : rising (oldStarts os) ≡ true → rising (newStarts ns) ≡ true → rising (startsOf l) ≡ true
 
-rises-old : (o : OldFrame) (os : List OldFrame) (ns : List NewFrame) (l : List Pick) → startsAfter (o .codeStart) (newStarts ns) ≡ true → Rises os ns l → Rises (o ∷ os) ns (old o ∷ l)
+rises-old : (o : OldFrame) (os : List OldFrame) (ns : List NewFrame) (l : List Pick) → startsAfter (o .span .codeStart) (newStarts ns) ≡ true → Rises os ns l → Rises (o ∷ os) ns (old o ∷ l)
 unfolding rising fromOld
 rises-old o os ns l h k =
-    let x = o .codeStart in
+    let x = o .span .codeStart in
     record {
       after = λ p r q. put p x (startsOf l) (up p x (oldStarts os) r) (k .after x (on p x (oldStarts os) r) (after-first x (newStarts ns) h (after-rising p (newStarts ns) q)));
       whole = λ r q. k .after x r (after-first x (newStarts ns) h q);
     }
 
-rises-new : (n : NewFrame) (os : List OldFrame) (ns : List NewFrame) (l : List Pick) → startsAfter (n .codeStart) (oldStarts os) ≡ true → Rises os ns l → Rises os (n ∷ ns) (new n ∷ l)
+rises-new : (n : NewFrame) (os : List OldFrame) (ns : List NewFrame) (l : List Pick) → startsAfter (n .span .codeStart) (oldStarts os) ≡ true → Rises os ns l → Rises os (n ∷ ns) (new n ∷ l)
 unfolding rising fromNew
 rises-new n os ns l h k =
-    let x = n .codeStart in
+    let x = n .span .codeStart in
     record {
       after = λ p r q. put p x (startsOf l) (up p x (newStarts ns) q) (k .after x (after-first x (oldStarts os) h (after-rising p (oldStarts os) r)) (on p x (newStarts ns) q));
       whole = λ r q. k .after x (after-first x (oldStarts os) h r) q;
     }
 
-rises-both : (n : NewFrame) (o : OldFrame) (os : List OldFrame) (ns : List NewFrame) (l : List Pick) → n .codeStart ≡ o .codeStart → Rises os ns l → Rises (o ∷ os) (n ∷ ns) (both n o ∷ l)
+rises-both : (n : NewFrame) (o : OldFrame) (os : List OldFrame) (ns : List NewFrame) (l : List Pick) → n .span .codeStart ≡ o .span .codeStart → Rises os ns l → Rises (o ∷ os) (n ∷ ns) (both n o ∷ l)
 unfolding rising fromNew
 rises-both n o os ns l e k =
-    let x = n .codeStart in
-    let olds : risingAfter (o .codeStart) (oldStarts os) ≡ true → risingAfter x (oldStarts os) ≡ true = subst (λ (y : ℕ). risingAfter y (oldStarts os) ≡ true) (sym e) in
+    let x = n .span .codeStart in
+    let olds : risingAfter (o .span .codeStart) (oldStarts os) ≡ true → risingAfter x (oldStarts os) ≡ true = subst (λ (y : ℕ). risingAfter y (oldStarts os) ≡ true) (sym e) in
     record {
-      after = λ p r q. put p x (startsOf l) (up p x (newStarts ns) q) (k .after x (olds (on p (o .codeStart) (oldStarts os) r)) (on p x (newStarts ns) q));
+      after = λ p r q. put p x (startsOf l) (up p x (newStarts ns) q) (k .after x (olds (on p (o .span .codeStart) (oldStarts os) r)) (on p x (newStarts ns) q));
       whole = λ r q. k .after x (olds r) q;
     }
 

@@ -13,17 +13,17 @@ use Rattle.framedata.specs.Step.{Pick, old, new, both, lesser, pick}
 use Rattle.framedata.proofs.Framing.{there, used-up}
 
 module _ (o : OldFrame) (n : NewFrame) where
-  pub old-lesser : o .codeStart < n .codeStart → lesser o n ≡ old o
+  pub old-lesser : o .span .codeStart < n .span .codeStart → lesser o n ≡ old o
   unfolding lesser
-  old-lesser h = rw (lt-ltb (o .codeStart) (n .codeStart) h)
+  old-lesser h = rw (lt-ltb (o .span .codeStart) (n .span .codeStart) h)
 
-  pub new-lesser : n .codeStart < o .codeStart → lesser o n ≡ new n
+  pub new-lesser : n .span .codeStart < o .span .codeStart → lesser o n ≡ new n
   unfolding lesser
-  new-lesser h = rw (le-ltb (o .codeStart) (n .codeStart) (omega arith), lt-ltb (n .codeStart) (o .codeStart) h)
+  new-lesser h = rw (le-ltb (o .span .codeStart) (n .span .codeStart) (omega arith), lt-ltb (n .span .codeStart) (o .span .codeStart) h)
 
-  pub equal : n .codeStart ≡ o .codeStart → lesser o n ≡ both n o
+  pub equal : n .span .codeStart ≡ o .span .codeStart → lesser o n ≡ both n o
   unfolding lesser
-  equal h = rw (le-ltb (o .codeStart) (n .codeStart) (omega arith), le-ltb (n .codeStart) (o .codeStart) (omega arith))
+  equal h = rw (le-ltb (o .span .codeStart) (n .span .codeStart) (omega arith), le-ltb (n .span .codeStart) (o .span .codeStart) (omega arith))
 
 -- which tables a pick takes a record of
 abbrev pub takesOld : Pick → Bool

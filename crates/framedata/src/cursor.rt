@@ -5,12 +5,12 @@ ghost use Rattle.framedata.specs.Records.{oldRecord, newRecord, oldAt, n
 ghost use Rattle.framedata.specs.Step.{atStart, pick, stepSpec, toldStep, toldNext};
 use crate::frame::Decoded;
 use crate::frame::FrameData;
-use crate::frame::NEW;
-use crate::frame::OLD;
 use crate::frame::new_frame;
 use crate::frame::old_frame;
 use crate::tables::shapes;
 use lent::Checked;
+use lent::NEW_FRAME;
+use lent::OLD_FRAME;
 use lent::Refusal;
 
 // Where an iteration stands: the place of the next record in each table.
@@ -44,17 +44,17 @@ pub enum Next {
 fn lesser(old: &[u8], i: usize, new: &[u8], j: usize) -> Next
     ensures { λ r. ⌜ toldNext (oldRecord (now (old .entry)) i) (newRecord (now (new .entry)) j) r ≡ pick (oldAt (now (old .entry)) i) (newAt (now (new .entry)) j) ⌝ }
 {
-    if i >= old.len() / OLD {
-        if j >= new.len() / NEW {
+    if i >= old.len() / OLD_FRAME {
+        if j >= new.len() / NEW_FRAME {
             return Next::End;
         }
         return Next::New;
     }
-    if j >= new.len() / NEW {
+    if j >= new.len() / NEW_FRAME {
         return Next::Old;
     }
-    let old_start = lent::u32_at(old, OLD * i);
-    let new_start = lent::u32_at(new, NEW * j);
+    let old_start = lent::u32_at(old, OLD_FRAME * i);
+    let new_start = lent::u32_at(new, NEW_FRAME * j);
     if old_start < new_start {
         return Next::Old;
     }
