@@ -42,7 +42,7 @@ startsAfter x [] = true
 startsAfter x (y ∷ l) = ltb x y
 
 -- to show a thing of a merge, show it of no records, and that it is kept by each kind of pick
-by-merge : (P : List OldFrame → List NewFrame → List Pick → Type 0)
+pub by-merge : (P : List OldFrame → List NewFrame → List Pick → Type 0)
     → P [] [] []
     → ((o : OldFrame) (os : List OldFrame) (ns : List NewFrame) (l : List Pick) → startsAfter (o .span .codeStart) (newStarts ns) ≡ true → P os ns l → P (o ∷ os) ns (old o ∷ l))
     → ((n : NewFrame) (os : List OldFrame) (ns : List NewFrame) (l : List Pick) → startsAfter (n .span .codeStart) (oldStarts os) ≡ true → P os ns l → P os (n ∷ ns) (new n ∷ l))

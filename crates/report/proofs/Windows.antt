@@ -11,15 +11,14 @@ use lib.Seq.{drop-cons, take-at, length-take-le}
 use lib.Dec.{leb}
 use Rattle.lent.specs.Words.{put}
 use Rattle.lent.specs.Order.{omapFault}
-use Rattle.lent.specs.Le.{leAt}
-use borrow.Author.Tests.{lt-ltb, le-ltb, le-leb, lt-leb}
+use borrow.Author.Tests.{le-leb}
 use Rattle.lent.proofs.Place.{length-listed}
 use Rattle.omap.specs.Records.{Entry, entryAt, records}
 use Rattle.omap.specs.Window.{Piece, nextOf, pieceOf, pieces, windowPieces}
 use Rattle.omap.specs.Output.{shown, allFit, flat, Window, counted, refusedAs, refusedFor, roomFor, unlessFault, windowSpec, windowOut}
 use Rattle.omap.proofs.Outputs.{length-flat}
-use Rattle.report.specs.Text.{digits, lines, numbered, refusedText}
-use Rattle.report.specs.Window.{pairLine, pieceLine, pairLines, piecesWord, windowPrinted, tableText, windowText}
+use Rattle.report.specs.Text.{ascii, digits, lines, numbered}
+use Rattle.report.specs.Window.{pairLine, pieceLine, pairLines, windowPrinted, tableText}
 use Rattle.report.proofs.Writing.{length-digits}
 
 pub length-pair : (x y : ℕ) → length (pairLine x y) ≡ 18
@@ -136,22 +135,8 @@ module _ (s : List ℕ) (a b : ℕ) where
   -- the text of the pairs that the call wrote, and of their number
   pub pieces-text : (out last : List ℕ) (n : ℕ) → length s / 8 ≤ length out / 2
       → counted n ≡ windowSpec true s a b (length out / 2) → last ≡ windowOut true s a b out
-      → pairLines (take (2 * n) last) ++ numbered piecesWord n ≡ tableText a b s
+      → pairLines (take (2 * n) last) ++ numbered (ascii "pieces ") n ≡ tableText a b s
   pieces-text out last n room e w =
       let l = windowPieces true s a b in
       let f : take (2 * n) last ≡ flat l = ap (λ (x : List ℕ). take (2 * n) x) w ∙ written out n e in
       rw (f, pairs-of l) (text-is (length out / 2) room (counted n) e)
-
--- the input by its length
-module _ (input : List ℕ) where
-  pub short : length input < 8 → windowText input ≡ refusedText 1
-  unfolding windowText
-  short h = rw (lt-ltb (length input) 8 h)
-
-  pub long : 65536 < length input → windowText input ≡ refusedText 2
-  unfolding windowText
-  long h = rw (le-ltb (length input) 8 (omega arith), lt-leb (length input) 65536 h)
-
-  pub whole : 8 ≤ length input → length input ≤ 65536 → windowText input ≡ tableText (leAt 4 input 0) (leAt 4 input 4) (drop 8 input)
-  unfolding windowText
-  whole h l = rw (le-ltb (length input) 8 h, le-leb (length input) 65536 l)

@@ -15,7 +15,7 @@ use Rattle.lent.specs.declared.Refusal.{Refusal}
 use Rattle.lent.specs.declared.Refusal.the-variants.{Length, Count, Order}
 use Rattle.lent.proofs.Logic.{lt-or-le}
 use Rattle.omap.proofs.Filling.{start}
-use Rattle.report.specs.Text.{glyph, digits, placesIn, places, Wrote, Printed}
+use Rattle.report.specs.Text.{glyph, digits, placesIn, places, refusedText, inputText, Wrote, Printed}
 
 -- two texts, one after the other
 pub sets-append : (out : List ℕ) (at : ℕ) (vs ws : List ℕ) → sets out at (vs ++ ws) ≡ sets (sets out at vs) (at + length vs) ws
@@ -77,6 +77,18 @@ printed {text} {before} {after} {r} room h w =
       bytes = rw (le-leb room (length before) h) (w .bytes ∙ start text before enough);
       within = omega (arith, w .place, ap length (w .bytes) ∙ length-sets before 0 text);
     }
+
+-- the text for an input by its length
+module _ (least : ℕ) (input text : List ℕ) where
+  pub short : length input < least → inputText least input text ≡ refusedText 1
+  short h = rw (lt-ltb (length input) least h)
+
+  module _ (h : least ≤ length input) where
+    pub long : 65536 < length input → inputText least input text ≡ refusedText 2
+    long l = rw (le-ltb (length input) least h, lt-leb (length input) 65536 l)
+
+    pub right : length input ≤ 65536 → inputText least input text ≡ text
+    right l = rw (le-ltb (length input) least h, le-leb (length input) 65536 l)
 
 -- too little room
 pub not-printed : (room : ℕ) (text before : List ℕ) → length before < room → Printed room text before 0 before
