@@ -19,10 +19,8 @@ use Rattle.framedata.specs.Records.{Span, spanAt, spans}
 use Rattle.framedata.specs.Tables.{faultOfBoth}
 use Rattle.framedata.specs.Start.{covers, placeSpec, Entered, startSpec}
 use Rattle.framedata.specs.declared.cursor.FrameCursor.{FrameCursor}
+use Rattle.framedata.proofs.Picking.{differ}
 use Rattle.framedata.proofs.Entering.{hit, enter-first, enter-before, enter-after, both-good}
-
-differ : false ≡ true → ⊥
-differ e = let z : _≡_ {A = ℕ} 0 1 = cc in omega arith
 
 module _ (w : ℕ) (s : List ℕ) (a : ℕ) where
   abbrev n : ℕ
@@ -62,7 +60,8 @@ module _ (w : ℕ) (s : List ℕ) (a : ℕ) where
         ⊎-elim
         (λ (l : a < f k).
         (k, record { within = omega arith; below = b; above = λ j h m. omega (arith, in-place f n r k j h m) }))
-        (λ (l : f k ≤ a). climb d (suc k) (omega arith) (λ j h. omega (arith, in-place f n r j k (omega arith) (omega arith))))
+        (λ (l : f k ≤ a).
+        climb d (suc k) (omega arith) (λ j h. omega (arith, in-place f n r j k (omega arith) (omega arith))))
         (lt-or-le a (f k))
 
     from-first : FirstAbove w s a 0 → Entered w s a 0
@@ -81,7 +80,9 @@ module _ (w : ℕ) (s : List ℕ) (a : ℕ) where
 
       -- records before the one just before the address begin before it
       earlier : (j : ℕ) → j < k - 1 → f j < a
-      earlier j h = omega (arith, each f 0 n r j (k - 1) (omega arith) h (omega (arith, u .within)), u .below (k - 1) (omega arith))
+      earlier j h =
+          let at : f (k - 1) ≤ a = u .below (k - 1) (omega arith) in
+          omega (arith, each f 0 n r j (k - 1) (omega arith) h (omega (arith, u .within)))
 
       from-before : covers a x ≡ true → Entered w s a (k - 1)
       from-before c =
@@ -102,7 +103,8 @@ module _ (w : ℕ) (s : List ℕ) (a : ℕ) where
           (eq-or-lt-of-le (u .below (k - 1) (omega arith))) in
           record {
             within = u .within;
-            before = λ j h. ⊎-elim (λ (e : j ≡ k - 1). subst (λ (y : ℕ). f y < a) (sym e) miss) (earlier j) (eq-or-lt-of-le (omega arith));
+            before = λ j h. ⊎-elim
+                (λ (e : j ≡ k - 1). subst (λ (y : ℕ). f y < a) (sym e) miss) (earlier j) (eq-or-lt-of-le (omega arith));
             after = λ j h l. u .above j (omega arith) l;
             there = λ h. inr (u .above k (omega arith) h);
             later = λ h d. absurd (differ (sym c ∙ d));

@@ -1,15 +1,14 @@
 -- What the operations answer, from plain facts: a table's refusal first, then what stands at a place.
 -- Assumes nothing.
 use mathlib.Core.Path.{_≡_, sym, ap, _∙_}
-use Prim.Native.Nat.{ℕ, _*_, _≤_, _<_}
+use Prim.Native.Nat.{ℕ, _≤_, _<_}
 use mathlib.Core.Option.{Option, none, some}
-use borrow.Author.Tests.{lt-ltb, le-ltb, le-leb, lt-leb}
-use Rattle.lent.specs.Paper.{Told, value, refused, unless, number, toldChecked}
+use borrow.Author.Tests.{lt-ltb, le-ltb}
+use Rattle.lent.specs.Paper.{number, toldChecked}
 use Rattle.lent.specs.declared.Refusal.{Refusal}
 use Rattle.lent.specs.declared.Checked.{Checked}
 use Rattle.lent.specs.declared.Checked.the-variants as checked
-use Rattle.framedata.specs.Records.{OldFrame, before}
-use Rattle.framedata.specs.Frame.{fromOld, toldOld}
+use Rattle.framedata.specs.Records.{before}
 
 -- what a test of the tables found: their refusal, or none
 module _ {r : Checked} {fault : Option ℕ} (told : toldChecked r ≡ fault) where
@@ -18,13 +17,6 @@ module _ {r : Checked} {fault : Option ℕ} (told : toldChecked r ≡ fault) whe
 
   pub good : r ≡ checked.Good → fault ≡ none
   good e = sym told ∙ ap toldChecked e
-
-module _ (o : OldFrame) where
-  pub fitting : o .localsSize * 4 ≤ 4294967295 → toldOld o ≡ value (fromOld o)
-  fitting h = rw (le-leb (o .localsSize * 4) 4294967295 h)
-
-  pub too-large : 4294967295 < o .localsSize * 4 → toldOld o ≡ refused 4
-  too-large h = rw (lt-leb (o .localsSize * 4) 4294967295 h)
 
 module _ {A : Type 0} (f : ℕ → A) (n i : ℕ) where
   pub there : i < n → before n f i ≡ some (f i)

@@ -13,17 +13,35 @@ use Rattle.framedata.specs.Step.{Pick, old, new, both, lesser, pick}
 use Rattle.framedata.proofs.Framing.{there, used-up}
 
 module _ (o : OldFrame) (n : NewFrame) where
-  pub old-lesser : o .span .codeStart < n .span .codeStart → lesser o n ≡ old o
-  unfolding lesser
-  old-lesser h = rw (lt-ltb (o .span .codeStart) (n .span .codeStart) h)
+  abbrev pub a : ℕ
+  a = o .span .codeStart
 
-  pub new-lesser : n .span .codeStart < o .span .codeStart → lesser o n ≡ new n
-  unfolding lesser
-  new-lesser h = rw (le-ltb (o .span .codeStart) (n .span .codeStart) (omega arith), lt-ltb (n .span .codeStart) (o .span .codeStart) h)
+  abbrev pub b : ℕ
+  b = n .span .codeStart
 
-  pub equal : n .span .codeStart ≡ o .span .codeStart → lesser o n ≡ both n o
+  pub old-lesser : a < b → lesser o n ≡ old o
   unfolding lesser
-  equal h = rw (le-ltb (o .span .codeStart) (n .span .codeStart) (omega arith), le-ltb (n .span .codeStart) (o .span .codeStart) (omega arith))
+  old-lesser h = rw (lt-ltb a b h)
+
+  pub new-lesser : b < a → lesser o n ≡ new n
+  unfolding lesser
+  new-lesser h = rw (le-ltb a b (omega arith), lt-ltb b a h)
+
+  pub equal : b ≡ a → lesser o n ≡ both n o
+  unfolding lesser
+  equal h = rw (le-ltb a b (omega arith), le-ltb b a (omega arith))
+
+  -- to show a thing of the lesser of two records, show it in three cases
+  pub by-lesser : (P : Pick → Type 0) → (a < b → P (old o)) → (b < a → P (new n)) → (b ≡ a → P (both n o)) → P (lesser o n)
+  by-lesser P below above same =
+      ⊎-elim
+      (λ (h : a < b). subst P (sym (old-lesser h)) (below h))
+      (λ (h : b ≤ a).
+      ⊎-elim
+      (λ (l : b < a). subst P (sym (new-lesser l)) (above l))
+      (λ (l : a ≤ b). let e : b ≡ a = omega arith in subst P (sym (equal e)) (same e))
+      (lt-or-le b a))
+      (lt-or-le a b)
 
 -- which tables a pick takes a record of
 abbrev pub takesOld : Pick → Bool
@@ -39,7 +57,7 @@ takesNew (both n o) = true
 some-is : {p q : Pick} → some p ≡ some q → p ≡ q
 some-is e = cc
 
-differ : false ≡ true → ⊥
+pub differ : false ≡ true → ⊥
 differ e = let z : _≡_ {A = ℕ} 0 1 = cc in omega arith
 
 module _ (f : ℕ → OldFrame) (n i : ℕ) (g : ℕ → NewFrame) (m j : ℕ) where
@@ -65,7 +83,7 @@ module _ (f : ℕ → OldFrame) (n i : ℕ) (g : ℕ → NewFrame) (m j : ℕ) w
       (λ (h : i < n). h)
       (λ (h : n ≤ i).
       ⊎-elim
-      (λ (l : j < m). let z : takesOld (new (g j)) ≡ true = subst (λ (q : Pick). takesOld q ≡ true) (some-is (sym e ∙ only-new h l)) takes in absurd (differ z))
+      (λ (l : j < m). absurd (differ (subst (λ (q : Pick). takesOld q ≡ true) (some-is (sym e ∙ only-new h l)) takes)))
       (λ (l : m ≤ j). let z : _≡_ {A = ℕ} 0 1 = cc (none-left h l) in absurd (omega arith))
       (lt-or-le j m))
       (lt-or-le i n)
@@ -76,7 +94,7 @@ module _ (f : ℕ → OldFrame) (n i : ℕ) (g : ℕ → NewFrame) (m j : ℕ) w
       (λ (l : j < m). l)
       (λ (l : m ≤ j).
       ⊎-elim
-      (λ (h : i < n). let z : takesNew (old (f i)) ≡ true = subst (λ (q : Pick). takesNew q ≡ true) (some-is (sym e ∙ only-old h l)) takes in absurd (differ z))
+      (λ (h : i < n). absurd (differ (subst (λ (q : Pick). takesNew q ≡ true) (some-is (sym e ∙ only-old h l)) takes)))
       (λ (h : n ≤ i). let z : _≡_ {A = ℕ} 0 1 = cc (none-left h l) in absurd (omega arith))
       (lt-or-le i n))
       (lt-or-le j m)

@@ -30,14 +30,18 @@ fn first_of(old: Checked, new: Checked) -> Checked
 pub fn shapes(old: &[u8], new: &[u8]) -> Checked
     ensures { λ r. ⌜ toldChecked r ≡ shapeOfBoth (now (old .entry)) (now (new .entry)) ⌝ }
 {
-    first_of(lent::old_frame_shape(old), lent::new_frame_shape(new))
+    let old_shape = lent::old_frame_shape(old);
+    let new_shape = lent::new_frame_shape(new);
+    first_of(old_shape, new_shape)
 }
 
 // Whether both tables are right, their order too: the old one first, and in full.
 pub fn checks(old: &[u8], new: &[u8]) -> Checked
     ensures { λ r. ⌜ toldChecked r ≡ faultOfBoth (now (old .entry)) (now (new .entry)) ⌝ }
 {
-    first_of(lent::old_frame_check(old), lent::new_frame_check(new))
+    let old_check = lent::old_frame_check(old);
+    let new_check = lent::new_frame_check(new);
+    first_of(old_check, new_check)
 }
 
 // Indicates whether any frame data is available. A table that is marked absent counts as empty.

@@ -68,7 +68,7 @@ pieces-text-requires : tie.Need-pieces-text-requires
 pieces-text-requires c κs =
     let q = c .before .before .before in
     let n = some-pieces (q .before .before .before) (q .windowed .given .0 .0) (q .windowed .given .1) in
-    (omega arith, (n, omega arith))
+    (omega arith, (omega arith, omega arith))
 
 enum-known-windowed-2 : tie.Need-enum-known-windowed-2
 enum-known-windowed-2 c = search needs
