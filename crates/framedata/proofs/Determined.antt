@@ -1,4 +1,4 @@
--- Each promise leaves one answer: what is told of an answer says which it was, since the answer can be read back from it.
+-- Each promise leaves one answer: what is told of an answer says which it was. The answer is read back from it.
 -- Assumes nothing.
 use mathlib.Core.Path.{_≡_, refl, ap}
 use Prim.Native.Nat.{ℕ}

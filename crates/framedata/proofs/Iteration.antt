@@ -72,21 +72,20 @@ module _ (s t : List ℕ) where
 
     left-none : n ≤ i → m ≤ j → left s t c ≡ unrolled c here
     unfolding merge
-    left-none h l =
-        rw (none-left (oldRecord s) n i (newRecord t) m j h l, listed-end (oldRecord s) i n h, listed-end (newRecord t) j m l)
+    left-none h l = rw (none-left s t i j h l, listed-end (oldRecord s) i n h, listed-end (newRecord t) j m l)
 
     left-new : n ≤ i → j < m → left s t c ≡ unrolled c here
     unfolding merge
-    left-new h l = rw (only-new (oldRecord s) n i (newRecord t) m j h l, listed-end (oldRecord s) i n h, new-step l)
+    left-new h l = rw (only-new s t i j h l, listed-end (oldRecord s) i n h, new-step l)
 
     left-old : i < n → m ≤ j → left s t c ≡ unrolled c here
     unfolding merge
-    left-old h l = rw (only-old (oldRecord s) n i (newRecord t) m j h l, old-step h, listed-end (newRecord t) j m l)
+    left-old h l = rw (only-old s t i j h l, old-step h, listed-end (newRecord t) j m l)
 
     left-two : i < n → j < m → left s t c ≡ unrolled c here
     unfolding merge
     left-two h l =
-        rw (two-left (oldRecord s) n i (newRecord t) m j h l)
+        rw (two-left s t i j h l)
         (ap (λ (x : List OldFrame). merge x (newsFrom t j)) (old-step h)
         ∙ ap (λ (y : List NewFrame). merge (o ∷ os) y) (new-step l)
         ∙ by-lesser o w

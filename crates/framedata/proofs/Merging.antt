@@ -35,10 +35,10 @@ startsAfter x (y ∷ l) = ltb x y
 -- to show a thing of a merge, show it of no records, and that it is kept by each kind of pick
 pub by-merge : (P : List OldFrame → List NewFrame → List Pick → Type 0)
     → P [] [] []
-    → ((o : OldFrame) (os : List OldFrame) (ns : List NewFrame) (l : List Pick) → startsAfter (oldStart o) (newStarts ns) ≡ true
-    → P os ns l → P (o ∷ os) ns (old o ∷ l))
-    → ((n : NewFrame) (os : List OldFrame) (ns : List NewFrame) (l : List Pick) → startsAfter (newStart n) (oldStarts os) ≡ true
-    → P os ns l → P os (n ∷ ns) (new n ∷ l))
+    → ((o : OldFrame) (os : List OldFrame) (ns : List NewFrame) (l : List Pick)
+    → startsAfter (oldStart o) (newStarts ns) ≡ true → P os ns l → P (o ∷ os) ns (old o ∷ l))
+    → ((n : NewFrame) (os : List OldFrame) (ns : List NewFrame) (l : List Pick)
+    → startsAfter (newStart n) (oldStarts os) ≡ true → P os ns l → P os (n ∷ ns) (new n ∷ l))
     → ((n : NewFrame) (o : OldFrame) (os : List OldFrame) (ns : List NewFrame) (l : List Pick) → newStart n ≡ oldStart o
     → P os ns l → P (o ∷ os) (n ∷ ns) (both n o ∷ l))
     → (os : List OldFrame) (ns : List NewFrame) → P os ns (merge os ns)
@@ -48,8 +48,12 @@ by-merge P none one two three [] (n ∷ ns) = two n [] ns (merge [] ns) refl (by
 by-merge P none one two three (o ∷ os) [] = one o os [] (merge os []) refl (by-merge P none one two three os [])
 by-merge P none one two three (o ∷ os) (n ∷ ns) =
     by-lesser o n (λ (p : Pick). P (o ∷ os) (n ∷ ns) (followed p (merge os (n ∷ ns)) (merge (o ∷ os) ns) (merge os ns)))
-    (λ h. one o os (n ∷ ns) (merge os (n ∷ ns)) (lt-ltb (oldStart o) (newStart n) h) (by-merge P none one two three os (n ∷ ns)))
-    (λ h. two n (o ∷ os) ns (merge (o ∷ os) ns) (lt-ltb (newStart n) (oldStart o) h) (by-merge P none one two three (o ∷ os) ns))
+    (λ h.
+    one o os (n ∷ ns) (merge os (n ∷ ns)) (lt-ltb (oldStart o) (newStart n) h)
+    (by-merge P none one two three os (n ∷ ns)))
+    (λ h.
+    two n (o ∷ os) ns (merge (o ∷ os) ns) (lt-ltb (newStart n) (oldStart o) h)
+    (by-merge P none one two three (o ∷ os) ns))
     (λ e. three n o os ns (merge os ns) e (by-merge P none one two three os ns))
 
 -- every new record is yielded, once and in order
@@ -108,7 +112,8 @@ first : (p x : ℕ) (l m : List ℕ) → risingAfter p (x ∷ m) ≡ true → ri
 first p x l m r k = put p x l (up p x m r) k
 
 module _ (os : List OldFrame) (ns : List NewFrame) (l : List Pick) where
-  rises-old : (o : OldFrame) → startsAfter (oldStart o) (newStarts ns) ≡ true → Rises os ns l → Rises (o ∷ os) ns (old o ∷ l)
+  rises-old : (o : OldFrame) → startsAfter (oldStart o) (newStarts ns) ≡ true → Rises os ns l
+      → Rises (o ∷ os) ns (old o ∷ l)
   unfolding rising fromOld
   rises-old o h k =
       let x = oldStart o in
@@ -119,7 +124,8 @@ module _ (os : List OldFrame) (ns : List NewFrame) (l : List Pick) where
         whole = λ r q. k .after x r (on-new q);
       }
 
-  rises-new : (n : NewFrame) → startsAfter (newStart n) (oldStarts os) ≡ true → Rises os ns l → Rises os (n ∷ ns) (new n ∷ l)
+  rises-new : (n : NewFrame) → startsAfter (newStart n) (oldStarts os) ≡ true → Rises os ns l
+      → Rises os (n ∷ ns) (new n ∷ l)
   unfolding rising fromNew
   rises-new n h k =
       let x = newStart n in
@@ -130,7 +136,8 @@ module _ (os : List OldFrame) (ns : List NewFrame) (l : List Pick) where
         whole = λ r q. k .after x (on-old r) q;
       }
 
-  rises-both : (n : NewFrame) (o : OldFrame) → newStart n ≡ oldStart o → Rises os ns l → Rises (o ∷ os) (n ∷ ns) (both n o ∷ l)
+  rises-both : (n : NewFrame) (o : OldFrame) → newStart n ≡ oldStart o → Rises os ns l
+      → Rises (o ∷ os) (n ∷ ns) (both n o ∷ l)
   unfolding rising fromNew
   rises-both n o e k =
       let x = newStart n in
@@ -143,8 +150,8 @@ module _ (os : List OldFrame) (ns : List NewFrame) (l : List Pick) where
       }
 
 -- where both lists rise strictly, so do the code starts that are yielded
-pub merge-rises : (os : List OldFrame) (ns : List NewFrame) → rising (oldStarts os) ≡ true → rising (newStarts ns) ≡ true
-    → rising (startsOf (merge os ns)) ≡ true
+pub merge-rises : (os : List OldFrame) (ns : List NewFrame)
+    → rising (oldStarts os) ≡ true → rising (newStarts ns) ≡ true → rising (startsOf (merge os ns)) ≡ true
 merge-rises os ns =
     by-merge Rises (record { after = λ p r q. r; whole = λ r q. r })
     (λ o os ns l h k. rises-old os ns l o h k)

@@ -3,7 +3,8 @@ use Prim.Native.Nat.{ℕ, _/_, _%_}
 use mathlib.Core.Bool.{Bool}
 use Rattle.lent.specs.Words.{isSet}
 use Rattle.framedata.specs.declared.attributes.FrameType.{FrameType}
-use Rattle.framedata.specs.declared.attributes.FrameType.the-variants.{Unknown, FPO, Trap, TSS, Standard, FrameData}
+use Rattle.framedata.specs.declared.attributes.FrameType.the-variants.{Unknown, FPO, Trap}
+use Rattle.framedata.specs.declared.attributes.FrameType.the-variants.{TSS, Standard, FrameData}
 use Rattle.framedata.specs.declared.attributes.Attributes as code
 
 -- the number of each frame type, as the Rust has it
@@ -22,7 +23,8 @@ pub record Attributes : Type 0 where
   pub hasSeh : Bool
   pub usesBasePointer : Bool
 
--- The bits, by the Rust's masks: prolog in 0 to 3, saved registers in 8 to 10, SEH in 9, base pointer in 10, type in 14, 15.
+-- The bits, by the Rust's masks: prolog in 0 to 3, saved registers in 8 to 10, SEH in 9, base pointer in 10, type in 14
+-- and 15.
 -- What asks for attributes cites this name and `attributes_of`, and not the bits.
 unfoldable pub attributes : ℕ → Attributes
 attributes word =

@@ -60,8 +60,8 @@ cursorAfter (suc k) s t c = cursorAfter k s t (stepSpec s t c .cursor)
 abbrev pub eachFrame : List Pick → List (Told Frame)
 eachFrame l = map (λ (p : Pick). value (frame p)) l
 
--- From the cursor c the steps yield the frames of l, one after the other; every further step answers x and hands back the
--- cursor that it was given.
+-- From the cursor c the steps yield the frames of l, one after the other. Every further step answers x and hands back
+-- the cursor that it was given.
 pub record YieldsThen (s t : List ℕ) (c : FrameCursor) (l : List Pick) (x : Told Frame) : Type 0 where
   pub told : (k : ℕ) → answers (length l + k) s t c ≡ eachFrame l ++ replicate k x
   pub stays : (k : ℕ) → cursorAfter (length l + k) s t c ≡ cursorAfter (length l) s t c

@@ -28,9 +28,9 @@ placeBy a (some x) = cond (covers a x) (x .place) (x .place + 1)
 unfoldable pub placeSpec : ℕ → List Span → ℕ
 placeSpec a l = placeBy a (lastAt (λ (x : Span). x .codeStart) a l)
 
--- What the place k stands for in a table in order. The records before it begin before a, those after it begin after a, and
--- the one there, if any, covers a or begins after it. Where the record just before it covers a, the one there begins at a or
--- before it: of two that cover a it is the later. This leaves one place (`one-entered`).
+-- What the place k stands for in a table in order. The records before it begin before a, those after it begin after a,
+-- and the one there, if any, covers a or begins after it. Where the record just before it covers a, the one there
+-- begins at a or before it: of two that cover a it is the later. This leaves one place (`one-entered`).
 pub record Entered (w : ℕ) (s : List ℕ) (a k : ℕ) : Type 0 where
   pub within : k ≤ length s / w
   pub before : (j : ℕ) → j < k → spanAt w s j .codeStart < a

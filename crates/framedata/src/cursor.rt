@@ -42,7 +42,10 @@ pub enum Next {
 
 // Which of the records at i and at j comes next.
 fn lesser(old: &[u8], i: usize, new: &[u8], j: usize) -> Next
-    ensures { λ r. ⌜ toldNext (oldRecord (now (old .entry)) i) (newRecord (now (new .entry)) j) r ≡ pick (oldAt (now (old .entry)) i) (newAt (now (new .entry)) j) ⌝ }
+    ensures { λ r. ⌜
+        toldNext (oldRecord (now (old .entry)) i) (newRecord (now (new .entry)) j) r
+        ≡ pick (oldAt (now (old .entry)) i) (newAt (now (new .entry)) j)
+        ⌝ }
 {
     if i >= old.len() / OLD_FRAME {
         if j >= new.len() / NEW_FRAME {
@@ -78,7 +81,10 @@ impl FrameCursor {
     // The next frame in order of code start, from either table. Where both tables have a frame with
     // one code start, the new one is yielded alone. A table that is marked absent counts as empty.
     pub fn step(mut self, old_present: bool, old: &[u8], new_present: bool, new: &[u8]) -> FrameStep
-        ensures { λ r. ⌜ toldStep r ≡ stepSpec (ifPresent «old_present» (now (old .entry))) (ifPresent «new_present» (now (new .entry))) self ⌝ }
+        ensures { λ r. ⌜
+            toldStep r
+            ≡ stepSpec (ifPresent «old_present» (now (old .entry))) (ifPresent «new_present» (now (new .entry))) self
+            ⌝ }
     {
         let olds = lent::if_present(old_present, old);
         let news = lent::if_present(new_present, new);

@@ -49,7 +49,10 @@ pub fn start_at(
     new_present: bool,
     new: &[u8],
 ) -> FrameStarted
-    ensures { λ r. ⌜ toldStarted r ≡ startSpec address (ifPresent «old_present» (now (old .entry))) (ifPresent «new_present» (now (new .entry))) ⌝ }
+    ensures { λ r. ⌜
+        toldStarted r
+        ≡ startSpec address (ifPresent «old_present» (now (old .entry))) (ifPresent «new_present» (now (new .entry)))
+        ⌝ }
 {
     let olds = lent::if_present(old_present, old);
     let news = lent::if_present(new_present, new);

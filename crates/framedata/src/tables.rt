@@ -46,7 +46,10 @@ pub fn checks(old: &[u8], new: &[u8]) -> Checked
 
 // Indicates whether any frame data is available. A table that is marked absent counts as empty.
 pub fn is_empty(old_present: bool, old: &[u8], new_present: bool, new: &[u8]) -> Emptiness
-    ensures { λ r. ⌜ toldEmptiness r ≡ emptySpec (ifPresent «old_present» (now (old .entry))) (ifPresent «new_present» (now (new .entry))) ⌝ }
+    ensures { λ r. ⌜
+        toldEmptiness r
+        ≡ emptySpec (ifPresent «old_present» (now (old .entry))) (ifPresent «new_present» (now (new .entry)))
+        ⌝ }
 {
     let olds = lent::if_present(old_present, old);
     let news = lent::if_present(new_present, new);

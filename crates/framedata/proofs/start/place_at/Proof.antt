@@ -1,14 +1,16 @@
 -- `framedata::place_at` meets its contract: the record just before the address, if it covers it, else the place after.
 -- Assumes nothing.
 use mathlib.Core.Path.{_≡_, sym, subst}
+use mathlib.Core.Bool.{true}
 use mathlib.Core.List.{List}
-use Prim.Native.Nat.{ℕ, _+_, _-_, _*_, _≤_}
+use Prim.Native.Nat.{ℕ, _+_, _-_, _*_, _≤_, _<_}
 use lib.ListN.{length}
 use native.Mathlib.Omega.{arith}
 use denote.Ref.{now}
 use Rattle.lent.specs.Order.{FirstAbove}
 use Rattle.lent.proofs.Place.{inside}
-use Rattle.framedata.specs.Records.{Span, spanAt}
+use Rattle.framedata.specs.Records.{Span, spanAt, spans}
+use Rattle.framedata.specs.Start.{covers, placeSpec}
 use Rattle.framedata.proofs.Entering.{hit, reaches, ends-before, enter-first, enter-before, enter-after}
 use borrow.Author.Needs.{needs}
 use Rattle.framedata.proofs.start.place_at.Statement.{statement}
@@ -28,13 +30,18 @@ module _ (c : tie.After-first-above) where
   abbrev k : ℕ
   k = c .first-above .result
 
+  before-it : 0 < k → covers a (spanAt w s (k - 1)) ≡ true → k - 1 ≡ placeSpec a (spans w s)
+  before-it pos e = sym (enter-before w s a k pos (c .first-above .ensures) e)
+
 -- the record just before the address, inside the table
 module _ (c : tie.Else1) where
   abbrev x : Span
   x = spanAt (w (c .before)) (s (c .before)) (k (c .before) - 1)
 
   room : w (c .before) * (k (c .before) - 1) + w (c .before) ≤ length (s (c .before))
-  room = inside (w (c .before)) (length (s (c .before))) (k (c .before) - 1) (omega (arith, c .before .first-above .ensures .within))
+  room =
+      let p = c .before in
+      inside (w p) (length (s p)) (k p - 1) (omega (arith, p .first-above .ensures .within))
 
 first-above-requires : tie.Need-first-above-requires
 first-above-requires c κs = search needs
@@ -57,7 +64,7 @@ u32-at-requires c κs = omega (arith, room c)
 returns-2 : tie.Need-returns-2
 returns-2 c =
     let p = c .before .before .before in
-    sym (enter-before (w p) (s p) (a p) (k p) (omega arith) (p .first-above .ensures) (hit (a p) (x (c .before .before)) (omega arith)))
+    before-it p (omega arith) (hit (a p) (x (c .before .before)) (omega arith))
 
 mul-u32-at-2 : tie.Need-mul-u32-at-2
 mul-u32-at-2 c = omega (arith, room (c .before .before))
@@ -77,13 +84,14 @@ returns-3 : tie.Need-returns-3
 returns-3 c =
     let e = c .before .before .before .before in
     let p = e .before in
-    sym (enter-before (w p) (s p) (a p) (k p) (omega arith) (p .first-above .ensures) (reaches (a p) (x e) (omega arith) (omega arith)))
+    before-it p (omega arith) (reaches (a p) (x e) (omega arith) (omega arith))
 
 returns-4 : tie.Need-returns-4
 returns-4 c =
     let e = c .before .before .before .before in
     let p = e .before in
-    sym (enter-after (w p) (s p) (a p) (k p) (omega arith) (p .first-above .ensures) (ends-before (a p) (x e) (omega arith) (omega arith)))
+    let covered = ends-before (a p) (x e) (omega arith) (omega arith) in
+    sym (enter-after (w p) (s p) (a p) (k p) (omega arith) (p .first-above .ensures) covered)
 
 pub place-at-spec : {M : Type 1} → statement M
 place-at-spec =

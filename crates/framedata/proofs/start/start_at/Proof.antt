@@ -30,7 +30,9 @@ returns : tie.Need-returns
 unfolding startSpec
 returns c =
     let p = c .before .before .before in
-    rw (← (p .before .before .if-present .ensures), ← (p .before .if-present2 .ensures), bad (p .checks .ensures) (c .before .checked .given .1))
+    let q = p .before .before in
+    let r = bad (p .checks .ensures) (c .before .checked .given .1) in
+    rw (← (q .if-present .ensures), ← (p .before .if-present2 .ensures), r)
 
 enum-told : tie.Need-enum-told
 enum-told c = search needs
@@ -57,7 +59,8 @@ unfolding startSpec
 returns-2 c =
     let p = c .before .before in
     let q = p .before .before .before in
-    rw (← (q .before .if-present .ensures), ← (q .if-present2 .ensures), right p, c .before .place-at .ensures, c .place-at2 .ensures)
+    let places = c .before .place-at .ensures in
+    rw (← (q .before .if-present .ensures), ← (q .if-present2 .ensures), right p, places, c .place-at2 .ensures)
 
 pub start-at-spec : {M : Type 1} → statement M
 start-at-spec =

@@ -41,7 +41,8 @@ module _ (c : tie.After-lesser) where
   abbrev n : NewFrame
   n = newRecord news (at .«new_index»)
 
-  next-is : (q : Next) → c .lesser .result ≡ q → pick (oldAt olds (at .«old_index»)) (newAt news (at .«new_index»)) ≡ toldNext o n q
+  next-is : (q : Next) → c .lesser .result ≡ q
+      → pick (oldAt olds (at .«old_index»)) (newAt news (at .«new_index»)) ≡ toldNext o n q
   next-is q e = sym (c .lesser .ensures) ∙ ap (toldNext o n) e
 
   abbrev asked : Stepped
@@ -55,13 +56,12 @@ module _ (c : tie.After-lesser) where
   decided q e = rw (good (tested .shapes .ensures) (c .before .enum-told .given .1), next-is q e)
 
   -- a record that is next lies inside its table
-  old-here : (q : Next) (p : Pick) → c .lesser .result ≡ q → toldNext o n q ≡ some p → takesOld p ≡ true → at .«old_index» < length olds / 16
-  old-here q p e f takes =
-      old-inside (oldRecord olds) (length olds / 16) (at .«old_index») (newRecord news) (length news / 32) (at .«new_index») p (next-is q e ∙ f) takes
+  module _ (q : Next) (p : Pick) (e : c .lesser .result ≡ q) (f : toldNext o n q ≡ some p) where
+    old-here : takesOld p ≡ true → at .«old_index» < length olds / 16
+    old-here = old-inside olds news (at .«old_index») (at .«new_index») p (next-is q e ∙ f)
 
-  new-here : (q : Next) (p : Pick) → c .lesser .result ≡ q → toldNext o n q ≡ some p → takesNew p ≡ true → at .«new_index» < length news / 32
-  new-here q p e f takes =
-      new-inside (oldRecord olds) (length olds / 16) (at .«old_index») (newRecord news) (length news / 32) (at .«new_index») p (next-is q e ∙ f) takes
+    new-here : takesNew p ≡ true → at .«new_index» < length news / 32
+    new-here = new-inside olds news (at .«old_index») (at .«new_index») p (next-is q e ∙ f)
 
 if-present-requires : tie.Need-if-present-requires
 if-present-requires c κs = search needs
@@ -79,7 +79,9 @@ returns : tie.Need-returns
 unfolding stepSpec
 returns c =
     let p = c .before .before .before in
-    rw (← (p .before .before .if-present .ensures), ← (p .before .if-present2 .ensures), bad (p .shapes .ensures) (c .before .shaped .given .1))
+    let q = p .before .before in
+    let r = bad (p .shapes .ensures) (c .before .shaped .given .1) in
+    rw (← (q .if-present .ensures), ← (p .before .if-present2 .ensures), r)
 
 enum-told : tie.Need-enum-told
 enum-told c = search needs
@@ -100,7 +102,9 @@ enum-known-decoded : tie.Need-enum-known-decoded
 enum-known-decoded c = search needs
 
 add-self : tie.Need-add-self
-add-self c = omega (arith, old-here (c .before .before .before .before .before .before) next.Old _ (c .before .before .before .before .enum-told3 .given .1) refl refl)
+add-self c =
+    let p = c .before .before .before .before in
+    omega (arith, old-here (p .before .before) next.Old _ (p .enum-told3 .given .1) refl refl)
 
 enum-told-4 : tie.Need-enum-told-4
 enum-told-4 c = search needs
@@ -112,7 +116,9 @@ new-frame-requires : tie.Need-new-frame-requires
 new-frame-requires c κs = new-here (c .before .before) next.New _ (c .enum-told5 .given .1) refl refl
 
 add-self-2 : tie.Need-add-self-2
-add-self-2 c = omega (arith, new-here (c .before .before .before) next.New _ (c .before .enum-told5 .given .1) refl refl)
+add-self-2 c =
+    let p = c .before in
+    omega (arith, new-here (p .before .before) next.New _ (p .enum-told5 .given .1) refl refl)
 
 enum-told-6 : tie.Need-enum-told-6
 enum-told-6 c = search needs
@@ -121,10 +127,14 @@ new-frame-requires-2 : tie.Need-new-frame-requires-2
 new-frame-requires-2 c κs = new-here (c .before .before) next.Both _ (c .enum-told6 .given .1) refl refl
 
 add-self-3 : tie.Need-add-self-3
-add-self-3 c = omega (arith, old-here (c .before .before .before) next.Both _ (c .before .enum-told6 .given .1) refl refl)
+add-self-3 c =
+    let p = c .before in
+    omega (arith, old-here (p .before .before) next.Both _ (p .enum-told6 .given .1) refl refl)
 
 add-self-4 : tie.Need-add-self-4
-add-self-4 c = omega (arith, new-here (c .before .before .before) next.Both _ (c .before .enum-told6 .given .1) refl refl)
+add-self-4 c =
+    let p = c .before in
+    omega (arith, new-here (p .before .before) next.Both _ (p .enum-told6 .given .1) refl refl)
 
 -- an answer over the tables as they are held is one over the tables behind their marks
 held : (c : tie.After-lesser) → {x : Stepped} → x ≡ stepSpec (olds c) (news c) (at c) → x ≡ asked c
