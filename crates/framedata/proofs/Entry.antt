@@ -2,7 +2,7 @@
 --   `starts-there`   the place found in each table is as `Entered` says
 --   `one-entered`    and no other place is
 -- Assumes nothing.
-use mathlib.Core.Path.{_≡_, refl, sym, ap, _∙_, subst}
+use mathlib.Core.Path.{_≡_, refl, sym, _∙_, subst}
 use mathlib.Core.Logic.{inl, inr, ⊎-elim}
 use Prim.Native.Nat.{ℕ, zero, suc, _+_, _-_, _/_, _≤_, _<_}
 use native.Mathlib.Nat.{eq-or-lt-of-le, eq-zero-or-pos}
@@ -11,7 +11,7 @@ use mathlib.Core.Bool.{true, false}
 use mathlib.Core.List.{List}
 use mathlib.Core.Option.{Option, none, some}
 use lib.ListN.{length}
-use Rattle.lent.specs.Paper.{Told, value, refused, unless}
+use Rattle.lent.specs.Paper.{value, unless}
 use Rattle.lent.specs.Order.{rising, keys, keyAt, FirstAbove}
 use Rattle.lent.proofs.Logic.{which, lt-or-le}
 use Rattle.lent.proofs.Rising.{each, in-place}

@@ -11,7 +11,7 @@ use Rattle.lent.proofs.Rising.{after-rising}
 use Rattle.lent.proofs.Logic.{and-left, and-right}
 use Rattle.framedata.specs.Records.{OldFrame, NewFrame}
 use Rattle.framedata.specs.Frame.{fromOld, fromNew}
-use Rattle.framedata.specs.Step.{Pick, old, new, both, lesser}
+use Rattle.framedata.specs.Step.{Pick, old, new, both}
 use Rattle.framedata.specs.Merge.{followed, merge, startsOf, newsOf, oldsOf, passedOnEquality}
 use Rattle.framedata.proofs.Picking.{by-lesser}
 

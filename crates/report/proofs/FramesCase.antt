@@ -1,4 +1,5 @@
--- The example of the program `frames`, whole: an old frame of each type, one of them passed over for an equal new one, and two new.
+-- The example of the program `frames`, whole: an old frame of each type, one of them passed over for an equal new one,
+-- and two new.
 -- Assumes nothing.
 use mathlib.Core.Path.{_≡_, refl}
 use Prim.Native.Nat.{ℕ}
@@ -38,6 +39,6 @@ printed =
     ++ line (ascii "frames 6")
 
 pub prints : framesText example ≡ heading ++ printed
-unfolding leAt listed shapeFault attributes fromOld fromNew lesser merge allFit glyph digits placesIn lines typeName frameLine
-    framesOrRefusal framesText
+unfolding leAt listed shapeFault attributes fromOld fromNew lesser merge allFit glyph digits placesIn lines typeName
+    frameLine framesOrRefusal framesText
 prints = refl

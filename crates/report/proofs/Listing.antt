@@ -16,7 +16,8 @@ use Rattle.framedata.specs.Merge.{merge, left, allFit}
 use Rattle.framedata.proofs.Iteration.{from-start}
 use Rattle.framedata.specs.declared.cursor.FrameCursor.{FrameCursor}
 use Rattle.report.specs.Text.{lines, refusedText, Wrote}
-use Rattle.report.specs.Frames.{frameLine, frames, framesOrRefusal, framesPrinted, framesText, FrameCount, howMany}
+use Rattle.report.specs.Frames.{frameLine, frames, framesOrRefusal, framesPrinted, framesText}
+use Rattle.report.specs.Frames.{FrameCount, howMany}
 use Rattle.report.proofs.Writing.{right, Left, left-first, left-last, left-more}
 use Rattle.report.proofs.Yields.{Yields, all-fit, leftOver, few-left}
 
@@ -35,7 +36,8 @@ module _ (s t before : List ℕ) (at n : ℕ) (all : FrameCount s t n) where
   }
 
   module _ {c : FrameCursor} {bytes : List ℕ} {k : ℕ} (w : Listing s t before at n c bytes k) where
-    pub listing-last : left s t c ≡ [] → at + 80 * n ≤ length before → Wrote (lines frameLine (frames s t)) before at k bytes × (k ≤ at + 80 * n)
+    pub listing-last : left s t c ≡ [] → at + 80 * n ≤ length before
+        → Wrote (lines frameLine (frames s t)) before at k bytes × (k ≤ at + 80 * n)
     unfolding lines
     listing-last e h = (left-last (omega (arith, w .small)) (rw e at (w .text)), omega (arith, w .small))
 
@@ -55,7 +57,8 @@ module _ (s t before : List ℕ) (at n : ℕ) (all : FrameCount s t n) where
       pub listing-room : at + 80 * n ≤ length before → k + 80 ≤ length bytes
       listing-room h = omega (arith, one-less, w .small, w .text .kept)
 
-      pub listing-more : {r : ℕ} {after : List ℕ} → Wrote (frameLine f) bytes k r after → r ≤ k + 80 → Listing s t before at n d after r
+      pub listing-more : {r : ℕ} {after : List ℕ} → Wrote (frameLine f) bytes k r after → r ≤ k + 80
+          → Listing s t before at n d after r
       unfolding lines
       listing-more v h =
           let e : lines frameLine (map frame (left s t c)) ≡ frameLine f ++ lines frameLine (map frame (left s t d))

@@ -33,5 +33,6 @@ printed =
     ++ line (ascii "pieces 3")
 
 pub prints : windowText example ≡ printed
-unfolding leAt listed shapeFault risingAfter rising tableFault records nextOf pieceOf put pieces shown fits allFit roomFor windowSpec glyph digits placesIn lines tableText windowText
+unfolding leAt listed shapeFault risingAfter rising tableFault records nextOf pieceOf put pieces shown fits allFit
+    roomFor windowSpec glyph digits placesIn lines tableText windowText
 prints = refl

@@ -1,7 +1,7 @@
 -- What a step says of the frames that are left at its cursor, and how many an iteration yields.
 -- Assumes nothing.
 use mathlib.Core.Path.{_≡_, refl, sym, ap, _∙_}
-use Prim.Native.Nat.{ℕ, suc, _+_, _/_, _≤_}
+use Prim.Native.Nat.{ℕ, _+_, _/_, _≤_}
 use native.Mathlib.Nat.{zero-add, add-zero}
 use native.Mathlib.Omega.{arith}
 use mathlib.Core.Bool.{Bool, true, false, cond}
@@ -13,7 +13,8 @@ use Rattle.lent.proofs.Place.{length-listed}
 use Rattle.framedata.specs.Records.{OldFrame, NewFrame, oldRecord, newRecord, olds, news}
 use Rattle.framedata.specs.Frame.{Frame}
 use Rattle.framedata.specs.Tables.{shapeOfBoth}
-use Rattle.framedata.specs.Step.{Pick, atStart, Stepped, frame, pickFits, frameOf, past, handed, unlessRefused, stepSpec}
+use Rattle.framedata.specs.Step.{Pick, atStart, Stepped, frame, pickFits, frameOf, past, handed, stepSpec}
+use Rattle.framedata.specs.Step.{unlessRefused}
 use Rattle.framedata.specs.Merge.{merge, left, allFit}
 use Rattle.framedata.specs.declared.cursor.FrameCursor.{FrameCursor}
 use Rattle.framedata.proofs.Merging.{by-merge}
@@ -53,7 +54,8 @@ pub record Yields (s t : List ℕ) (c next : FrameCursor) (f : Frame) : Type 0 w
   pub fits : pickFits pick ≡ true
   pub is : frame pick ≡ f
 
-pub all-fit : {s t : List ℕ} {c next : FrameCursor} {f : Frame} → Yields s t c next f → allFit (left s t c) ≡ allFit (left s t next)
+pub all-fit : {s t : List ℕ} {c next : FrameCursor} {f : Frame} → Yields s t c next f
+    → allFit (left s t c) ≡ allFit (left s t next)
 unfolding allFit
 all-fit y = rw (y .first, y .fits)
 
@@ -64,7 +66,8 @@ leftOver s t c k = unless (shapeOfBoth s t) (cond (allFit (left s t c)) (value (
 -- what a step says, from what it found of the tables and of what is next
 module _ (s t : List ℕ) (c : FrameCursor) where
   by-frame : (fault : Option ℕ) (x : Option Pick) (f : Frame) (d : FrameCursor) → shapeOfBoth s t ≡ fault
-      → left s t c ≡ unrolled s t c x → unlessRefused c fault x ≡ record { answer = value f; cursor = d } → Yields s t c d f
+      → left s t c ≡ unrolled s t c x → unlessRefused c fault x ≡ record { answer = value f; cursor = d }
+      → Yields s t c d f
   by-frame (some n) x f d g l e =
       let a : refused n ≡ value f = ap (λ (r : Stepped). r .answer) e in
       let z : _≡_ {A = ℕ} 0 1 = cc in
@@ -78,13 +81,14 @@ module _ (s t : List ℕ) (c : FrameCursor) where
       let i = said-frame (pickFits p) (frame p) f (h .0) in
       record { pick = p; good = g; first = rw (h .1) at l; fits = i .0; is = i .1 }
 
-  pub by-step : (f : Frame) (d : FrameCursor) → record { answer = value f; cursor = d } ≡ stepSpec s t c → Yields s t c d f
+  pub by-step : (f : Frame) (d : FrameCursor) → record { answer = value f; cursor = d } ≡ stepSpec s t c
+      → Yields s t c d f
   unfolding stepSpec
   by-step f d e = by-frame (shapeOfBoth s t) (here s t c) f d refl (left-step s t c) (sym e)
 
   -- the end: no table is refused, and nothing is left
-  by-end : (fault : Option ℕ) (x : Option Pick) → left s t c ≡ unrolled s t c x → unlessRefused c fault x .answer ≡ nothing
-      → (fault ≡ none) × (left s t c ≡ [])
+  by-end : (fault : Option ℕ) (x : Option Pick) → left s t c ≡ unrolled s t c x
+      → unlessRefused c fault x .answer ≡ nothing → (fault ≡ none) × (left s t c ≡ [])
   by-end (some n) x l e = (cc, cc)
   by-end none none l e = (refl, l)
   by-end none (some p) l e =
@@ -112,7 +116,8 @@ module _ (s t : List ℕ) (c : FrameCursor) where
         let e : k + length (left s t c) ≡ (k + 1) + length (left s t d) = omega (arith, ap length (y .first)) in
         rw (all-fit y, e)
 
-    pub all-told : (d : FrameCursor) → record { answer = nothing; cursor = d } ≡ stepSpec s t c → leftOver s t c k ≡ value k
+    pub all-told : (d : FrameCursor) → record { answer = nothing; cursor = d } ≡ stepSpec s t c
+        → leftOver s t c k ≡ value k
     unfolding allFit
     all-told d e = let g = at-end d e in rw (g .0, g .1, add-zero k)
 
@@ -130,7 +135,8 @@ merge-few =
     (λ n o os ns l e k. omega (arith, k))
 
 counts : (fault : Option ℕ) (b : Bool) (l : List Pick)
-    → unless fault (cond b (value (0 + length l)) (refused 4)) ≡ howMany (unless fault (cond b (value (map frame l)) (refused 4)))
+    → unless fault (cond b (value (0 + length l)) (refused 4))
+    ≡ howMany (unless fault (cond b (value (map frame l)) (refused 4)))
 counts none true l = ap value (zero-add (length l) ∙ sym (length-map l frame))
 counts none false l = refl
 counts (some n) b l = refl
@@ -138,7 +144,8 @@ counts (some n) b l = refl
 -- where the frames are counted, no table and no frame is refused
 counted-by : (s t : List ℕ) (n : ℕ) (fault : Option ℕ) (b : Bool) → shapeOfBoth s t ≡ fault
     → allFit (merge (olds s) (news t)) ≡ b
-    → value n ≡ howMany (unless fault (cond b (value (map frame (merge (olds s) (news t)))) (refused 4))) → FrameCount s t n
+    → value n ≡ howMany (unless fault (cond b (value (map frame (merge (olds s) (news t)))) (refused 4)))
+    → FrameCount s t n
 counted-by s t n none true g f e =
     let m : n ≡ length (map frame (merge (olds s) (news t))) = cc in
     record { good = g; fit = f; number = m ∙ length-map (merge (olds s) (news t)) frame }
@@ -149,7 +156,8 @@ counted-by s t n (some m) b g f e = let z : _≡_ {A = ℕ} 0 1 = cc in absurd (
 module _ (s t : List ℕ) where
   pub all-left : leftOver s t atStart 0 ≡ howMany (framesOrRefusal s t)
   unfolding framesOrRefusal
-  all-left = rw (from-start s t) (counts (shapeOfBoth s t) (allFit (merge (olds s) (news t))) (merge (olds s) (news t)))
+  all-left =
+      rw (from-start s t) (counts (shapeOfBoth s t) (allFit (merge (olds s) (news t))) (merge (olds s) (news t)))
 
   -- no more frames than records
   pub few-left : length (left s t atStart) ≤ length s / 16 + length t / 32

@@ -48,7 +48,8 @@ flag on letter = cond on letter (code "-")
 abbrev pub flags : Frame → List ℕ
 flags f =
     flag (f .hasStructuredEh) (code "s")
-    ∷ (flag (f .hasCppEh) (code "c") ∷ (flag (f .isFunctionStart) (code "f") ∷ (flag (f .usesBasePointer) (code "b") ∷ [])))
+    ∷ (flag (f .hasCppEh) (code "c")
+    ∷ (flag (f .isFunctionStart) (code "f") ∷ (flag (f .usesBasePointer) (code "b") ∷ [])))
 
 -- the columns of the sizes: start, size, locals, params, prolog, saved
 abbrev pub sizeColumns : Frame → List (List ℕ)
@@ -84,7 +85,8 @@ framesPrinted (value l) = heading ++ (lines frameLine l ++ numbered (ascii "fram
 framesPrinted nothing = []
 framesPrinted (refused n) = refusedText n
 
--- the input is the old table's length in bytes, the old table, and the new one; an old length greater than what follows: refused 1
+-- The input is the old table's length in bytes, the old table, and the new one. An old length greater than what
+-- follows: refused 1.
 unfoldable pub framesText : List ℕ → List ℕ
 framesText input =
     inputText 4 input

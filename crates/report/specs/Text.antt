@@ -69,8 +69,8 @@ pub record Wrote (text before : List ℕ) (at r : ℕ) (after : List ℕ) : Type
   pub bytes : after ≡ sets before at text
   pub room : at + length text ≤ length before
 
--- A whole text at the front of lent bytes, and its length as the answer. With less room than the largest text of its kind
--- needs, the answer is 0 and the bytes are as they were.
+-- A whole text at the front of lent bytes, and its length as the answer. With less room than the largest text of its
+-- kind needs, the answer is 0 and the bytes are as they were.
 pub record Printed (room : ℕ) (text before : List ℕ) (r : ℕ) (after : List ℕ) : Type 0 where
   pub answer : r ≡ cond (leb room (length before)) (length text) 0
   pub bytes : after ≡ cond (leb room (length before)) (writtenOver text before) before

@@ -1,12 +1,13 @@
 // The line of a frame, in columns.
 ghost use mathlib.Core.Path.{_≡_};
-ghost use mathlib.Core.List.{_∷_, [], _++_};
+ghost use mathlib.Core.List.{_∷_, []};
 ghost use Prim.Native.Nat.{_+_, _≤_};
 ghost use lib.ListN.{length};
 ghost use Rattle.framedata.specs.Attributes.{typeNumber};
 ghost use Rattle.framedata.specs.Frame.{toldStack, toldProgram, toldFrame};
 ghost use Rattle.report.specs.Text.{line, Wrote};
-ghost use Rattle.report.specs.Frames.{padded, columns, typeName, optional, flag, flags, sizeColumns, kindColumns, frameLine};
+ghost use Rattle.report.specs.Frames.{padded, columns, typeName, optional, flag, flags};
+ghost use Rattle.report.specs.Frames.{sizeColumns, frameLine};
 use crate::text::hex;
 use crate::text::put;
 use framedata::FrameData;
@@ -55,7 +56,9 @@ fn program(string: Program, out: &mut [u8], at: usize) -> usize
 // The column type.
 fn kind(ty: FrameType, out: &mut [u8], at: usize) -> usize
     requires { ⌜ at + 8 ≤ length (now out) ⌝ }
-    ensures { λ r. ⌜ Wrote (columns (padded 5 (typeName (typeNumber ty)) ∷ [])) (now (out .entry)) at r (now (out .exit)) ⌝ }
+    ensures { λ r. ⌜
+        Wrote (columns (padded 5 (typeName (typeNumber ty)) ∷ [])) (now (out .entry)) at r (now (out .exit))
+        ⌝ }
     ensures { λ r. ⌜ r ≤ at + 8 ⌝ }
 {
     match ty {

@@ -4,7 +4,8 @@ ghost use Prim.Native.Nat.{_+_, _*_, _≤_};
 ghost use lib.ListN.{length};
 ghost use Rattle.lent.specs.Paper.{value};
 ghost use Rattle.report.specs.Text.{lines, Wrote, Printed};
-ghost use Rattle.report.specs.Frames.{frameLine, frames, framesPrinted, framesOrRefusal, FrameCount, howMany, toldTallied, framesText, framesRoom};
+ghost use Rattle.report.specs.Frames.{frameLine, frames, framesPrinted, framesOrRefusal, framesText, framesRoom};
+ghost use Rattle.report.specs.Frames.{FrameCount, howMany, toldTallied};
 use crate::frame_line::frame_line;
 use crate::text::numbered;
 use crate::text::put;
@@ -52,7 +53,9 @@ fn tally(old: &[u8], new: &[u8]) -> Tallied
 // The line of each frame. Nothing is refused here: `tally` has gone the same way before.
 fn frame_lines(old: &[u8], new: &[u8], n: usize, out: &mut [u8], at: usize) -> usize
     requires { ⌜ FrameCount (now old) (now new) n × (at + 80 * n ≤ length (now out)) ⌝ }
-    ensures { λ r. ⌜ Wrote (lines frameLine (frames (now (old .entry)) (now (new .entry)))) (now (out .entry)) at r (now (out .exit)) ⌝ }
+    ensures { λ r. ⌜
+        Wrote (lines frameLine (frames (now (old .entry)) (now (new .entry)))) (now (out .entry)) at r (now (out .exit))
+        ⌝ }
     ensures { λ r. ⌜ r ≤ at + 80 * n ⌝ }
 {
     let mut cursor = FrameCursor::new();
@@ -80,7 +83,10 @@ fn frame_lines(old: &[u8], new: &[u8], n: usize, out: &mut [u8], at: usize) -> u
 // The heading, the frames, and their number.
 fn listing(old: &[u8], new: &[u8], n: usize, out: &mut [u8]) -> usize
     requires { ⌜ FrameCount (now old) (now new) n × ((n ≤ 4095) × (framesRoom ≤ length (now out))) ⌝ }
-    ensures { λ r. ⌜ Wrote (framesPrinted (value (frames (now (old .entry)) (now (new .entry))))) (now (out .entry)) 0 r (now (out .exit)) ⌝ }
+    ensures { λ r. ⌜
+        Wrote (framesPrinted (value (frames (now (old .entry)) (now (new .entry)))))
+        (now (out .entry)) 0 r (now (out .exit))
+        ⌝ }
 {
     let first = put(
         b"start    size     locals   params   prolog saved stack    program  type  flags\n",
@@ -94,7 +100,10 @@ fn listing(old: &[u8], new: &[u8], n: usize, out: &mut [u8]) -> usize
 // The frames of both tables, or the refusal.
 fn tables_text(old: &[u8], new: &[u8], out: &mut [u8]) -> usize
     requires { ⌜ (length (now old) + length (now new) ≤ 65532) × (framesRoom ≤ length (now out)) ⌝ }
-    ensures { λ r. ⌜ Wrote (framesPrinted (framesOrRefusal (now (old .entry)) (now (new .entry)))) (now (out .entry)) 0 r (now (out .exit)) ⌝ }
+    ensures { λ r. ⌜
+        Wrote (framesPrinted (framesOrRefusal (now (old .entry)) (now (new .entry))))
+        (now (out .entry)) 0 r (now (out .exit))
+        ⌝ }
 {
     let tallied = tally(old, new);
     match tallied {

@@ -1,5 +1,4 @@
 // What the program `window` prints.
-ghost use mathlib.Core.Path.{_≡_};
 ghost use mathlib.Core.List.{_++_};
 ghost use Prim.Native.Nat.{_+_, _*_, _≤_};
 ghost use lib.ListN.{length, take};
@@ -41,7 +40,10 @@ fn pair_lines(pairs: &[u32], out: &mut [u8], at: usize) -> usize
 // The lines of the first n pairs, and their number.
 fn pieces_text(pairs: &[u32], n: usize, out: &mut [u8]) -> usize
     requires { ⌜ (2 * n ≤ length (now pairs)) × ((n ≤ 8191) × (windowRoom ≤ length (now out))) ⌝ }
-    ensures { λ r. ⌜ Wrote (pairLines (take (2 * n) (now (pairs .entry))) ++ numbered (ascii "pieces ") n) (now (out .entry)) 0 r (now (out .exit)) ⌝ }
+    ensures { λ r. ⌜
+        Wrote (pairLines (take (2 * n) (now (pairs .entry))) ++ numbered (ascii "pieces ") n)
+        (now (out .entry)) 0 r (now (out .exit))
+        ⌝ }
 {
     let last = 2 * n;
     let at = pair_lines(&pairs[..last], out, 0);

@@ -78,7 +78,8 @@ frame-line-requires : tie.Need-frame-line-requires Inv-loop μ-loop
 frame-line-requires c κs =
     let q = p (c .before) in
     let st = start q in
-    listing-room (s q) (t q) (out q) (st .args .at) (st .args .n) (st .pre .0) (q .before .loop .inv) (yields (c .before)) (st .pre .1)
+    listing-room (s q) (t q) (out q) (st .args .at) (st .args .n) (st .pre .0) (q .before .loop .inv)
+    (yields (c .before)) (st .pre .1)
 
 loop-less : tie.Need-loop-less Inv-loop μ-loop
 loop-less c = omega (arith, ap length (yields (c .before .before .before .before) .first))
@@ -89,7 +90,8 @@ loop-again c =
     let q = p y in
     let st = start q in
     let line = c .before .before .frame-line .ensures in
-    listing-more (s q) (t q) (out q) (st .args .at) (st .args .n) (st .pre .0) (q .before .loop .inv) (yields y) (line .0) (line .1)
+    listing-more (s q) (t q) (out q) (st .args .at) (st .args .n) (st .pre .0) (q .before .loop .inv)
+    (yields y) (line .0) (line .1)
 
 enum-told : tie.Need-enum-told Inv-loop μ-loop
 enum-told c = search needs

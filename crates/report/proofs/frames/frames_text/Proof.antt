@@ -1,8 +1,8 @@
 -- `report::frames_text` meets its contract: by the lengths of the input.
 -- Assumes nothing.
-use mathlib.Core.Path.{_≡_, sym, _∙_, subst}
+use mathlib.Core.Path.{_≡_, sym, subst}
 use mathlib.Core.List.{List}
-use Prim.Native.Nat.{ℕ, _+_, _-_, _≤_, _<_}
+use Prim.Native.Nat.{ℕ, _+_, _-_}
 use lib.ListN.{length, take, drop}
 use native.Mathlib.Omega.{arith}
 use denote.Ref.{now}
@@ -52,7 +52,8 @@ unfolding framesText
 returns-3 c =
     let p = c .before .before .before .before in
     printed framesRoom (p .before .before .if1 .left)
-    (rw (long 4 (input (p .before .before)) _ (p .before .if2 .left) (p .if3 .taken)) (c .before .before .refused2 .ensures))
+    (rw (long 4 (input (p .before .before)) _ (p .before .if2 .left) (p .if3 .taken))
+    (c .before .before .refused2 .ensures))
 
 u32-at-requires : tie.Need-u32-at-requires
 u32-at-requires c κs = search needs
@@ -75,7 +76,8 @@ returns-4 c =
     let r = p .before .before in
     let o = rw (p .before .u32-at .ensures) at (p .if4 .taken) in
     printed framesRoom (r .before .before .if1 .left)
-    (rw (overlong-frames (input (r .before .before)) (r .before .if2 .left) (r .if3 .left) o) (c .before .before .refused3 .ensures))
+    (rw (overlong-frames (input (r .before .before)) (r .before .if2 .left) (r .if3 .left) o)
+    (c .before .before .refused3 .ensures))
 
 add-middle : tie.Need-add-middle
 add-middle c = search needs
@@ -119,8 +121,8 @@ returns-5 c =
     (rw (whole-frames s (r .before .if2 .left) (r .if3 .left) o, e, ← (part-from (4 + n) s))
     (subst
     (λ (x : ℕ).
-    Wrote (framesPrinted (framesOrRefusal (take x (drop 4 s)) (take (length s - (4 + n)) (drop (4 + n) s)))) (out q) 0 (w .result)
-    (w .last .1 .1 .0))
+    Wrote (framesPrinted (framesOrRefusal (take x (drop 4 s)) (take (length s - (4 + n)) (drop (4 + n) s)))) (out q) 0
+    (w .result) (w .last .1 .1 .0))
     m (w .ensures)))
 
 pub frames-text-spec : {M : Type 1} → statement M

@@ -64,7 +64,8 @@ returns : tie.Need-returns
 returns c =
     let q = c .before .before .before .before .before in
     let p = q .before .before in
-    rw (all-frames (s p) (t p) (counted p (q .tallied .given .0 .0) (q .tallied .given .1))) (c .before .before .listing .ensures)
+    rw (all-frames (s p) (t p) (counted p (q .tallied .given .0 .0) (q .tallied .given .1)))
+    (c .before .before .listing .ensures)
 
 same-length-2 : tie.Need-same-length-2
 same-length-2 c = search needs
@@ -73,7 +74,8 @@ returns-2 : tie.Need-returns-2
 returns-2 c =
     let q = c .before .before .before .before .before .before in
     let why = q .tallied2 .given .0 .0 in
-    rw (refusal (q .before .before) (tallied.Refused why) (number why) refl (q .tallied2 .given .1), ← (c .before .before .before .before .refusal-number .ensures))
+    let is = refusal (q .before .before) (tallied.Refused why) (number why) refl (q .tallied2 .given .1) in
+    rw (is, ← (c .before .before .before .before .refusal-number .ensures))
     (c .before .before .refused .ensures)
 
 same-length-3 : tie.Need-same-length-3
@@ -82,7 +84,8 @@ same-length-3 c = search needs
 returns-3 : tie.Need-returns-3
 returns-3 c =
     let q = c .before .before .before .before in
-    rw (refusal (q .before .before) tallied.TooLarge 4 refl (q .enum-told .given .1)) (c .before .before .refused2 .ensures)
+    rw (refusal (q .before .before) tallied.TooLarge 4 refl (q .enum-told .given .1))
+    (c .before .before .refused2 .ensures)
 
 pub tables-text-spec : {M : Type 1} → statement M
 tables-text-spec =

@@ -89,7 +89,8 @@ enum-told c = search needs
 returns : tie.Need-returns Inv-loop μ-loop
 returns c =
     let q = c .before .before in
-    sym (all-told (s q) (t q) (at q) (k q) (c .enum-told .given .0 .0) (step-is q (c .enum-told .given .1))) ∙ q .before .loop .inv .0
+    sym (all-told (s q) (t q) (at q) (k q) (c .enum-told .given .0 .0) (step-is q (c .enum-told .given .1)))
+    ∙ q .before .loop .inv .0
 
 enum-known-step-2 : tie.Need-enum-known-step-2 Inv-loop μ-loop
 enum-known-step-2 c = search needs

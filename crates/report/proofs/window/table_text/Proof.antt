@@ -36,7 +36,8 @@ module _ (c : tie.After-lookup-range) where
   abbrev out : List ℕ
   out = now (c .before .before .before .before .args .out)
 
-  answer-is : {q : Windowed} → c .lookup-range .result ≡ q → toldWindowed q ≡ windowSpec true table a b (length zeros / 2)
+  answer-is : {q : Windowed} → c .lookup-range .result ≡ q
+      → toldWindowed q ≡ windowSpec true table a b (length zeros / 2)
   answer-is e = sym (ap toldWindowed e) ∙ c .lookup-range .ensures .0
 
   left-behind : c .lookup-range .last .1 .1 .1 .1 .0 ≡ windowOut true table a b zeros
@@ -49,7 +50,8 @@ module _ (c : tie.After-lookup-range) where
   enough : length table / 8 ≤ length zeros / 2
   enough = let z : length zeros ≡ 16384 = length-replicate {A = ℕ} 16384 0 in omega arith
 
-  text : {q : Windowed} → c .lookup-range .result ≡ q → windowPrinted (toldWindowed q) (windowPieces true table a b) ≡ tableText a b table
+  text : {q : Windowed} → c .lookup-range .result ≡ q
+      → windowPrinted (toldWindowed q) (windowPieces true table a b) ≡ tableText a b table
   text {q} e = text-is table a b (length zeros / 2) enough (toldWindowed q) (answer-is e)
 
 slice-aggregate-lookup-range : tie.Need-slice-aggregate-lookup-range
@@ -100,8 +102,8 @@ returns c =
     let l = q .before .before .before in
     let w = c .before .before .pieces-text in
     subst (λ (x : List ℕ). Wrote x (out l) 0 (w .result) (w .last .1 .1 .0))
-    (pieces-text (table l) (a l) (b l) (zeros l) (l .lookup-range .last .1 .1 .1 .1 .0) (q .windowed .given .0 .0) (enough l)
-    (answer-is l (q .windowed .given .1)) (left-behind l))
+    (pieces-text (table l) (a l) (b l) (zeros l) (l .lookup-range .last .1 .1 .1 .1 .0) (q .windowed .given .0 .0)
+    (enough l) (answer-is l (q .windowed .given .1)) (left-behind l))
     (w .ensures)
 
 same-length-2 : tie.Need-same-length-2
@@ -134,7 +136,8 @@ returns-4 c =
     let q = c .before .before .before .before in
     let l = q .before .before .before in
     let w = c .before .before .refused3 in
-    subst (λ (x : List ℕ). Wrote x (out l) 0 (w .result) (w .last .1 .0)) (text l (q .enum-told2 .given .1)) (w .ensures)
+    subst (λ (x : List ℕ). Wrote x (out l) 0 (w .result) (w .last .1 .0)) (text l (q .enum-told2 .given .1))
+    (w .ensures)
 
 pub table-text-spec : {M : Type 1} → statement M
 table-text-spec =

@@ -41,7 +41,8 @@ unfolding windowText
 returns-3 c =
     let p = c .before .before .before .before in
     printed windowRoom (p .before .before .if1 .left)
-    (rw (long 8 (input (p .before .before)) _ (p .before .if2 .left) (p .if3 .taken)) (c .before .before .refused2 .ensures))
+    (rw (long 8 (input (p .before .before)) _ (p .before .if2 .left) (p .if3 .taken))
+    (c .before .before .refused2 .ensures))
 
 u32-at-requires : tie.Need-u32-at-requires
 u32-at-requires c κs = search needs
@@ -71,7 +72,12 @@ returns-4 c =
     let p = b .before .before in
     let s = input (p .before .before) in
     printed windowRoom (p .before .before .if1 .left)
-    (rw (right 8 s _ (p .before .if2 .left) (p .if3 .left), ← (b .before .u32-at .ensures), ← (b .u32-at2 .ensures), ← (part-from 8 s))
+    (rw (
+      right 8 s _ (p .before .if2 .left) (p .if3 .left),
+      ← (b .before .u32-at .ensures),
+      ← (b .u32-at2 .ensures),
+      ← (part-from 8 s),
+    )
     (c .before .before .table-text .ensures))
 
 pub window-text-spec : {M : Type 1} → statement M
