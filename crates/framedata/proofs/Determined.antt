@@ -1,13 +1,13 @@
--- Each promise leaves one answer: what is told of an answer says which it was. The answer is read back from what is told.
+-- Each promise leaves one answer: what is told of an answer says which it was. The answer is read back from it.
 -- Assumes nothing.
-use mathlib.Core.Path.{_≡_, refl, sym, ap, _∙_}
+use mathlib.Core.Path.{_≡_, refl, ap}
 use Prim.Native.Nat.{ℕ}
 use mathlib.Core.Bool.{Bool, cond}
 use mathlib.Core.Option.{Option, none, some}
 use lib.Dec.{eqb}
 use Rattle.lent.specs.Paper.{Told, value, nothing, refused}
-use Rattle.lent.specs.declared.Refusal.{Refusal}
 use Rattle.lent.specs.declared.Refusal.the-variants.{Length, Count, Order}
+use Rattle.lent.proofs.Answers.{refusal, one-answer}
 use Rattle.framedata.specs.Attributes.{typeNumber}
 use Rattle.framedata.specs.Frame.{Frame, toldStack, toldProgram, toldFrame, toldFramed}
 use Rattle.framedata.specs.Step.{Stepped, toldStep}
@@ -30,13 +30,12 @@ use Rattle.framedata.specs.declared.start.FrameStarted.the-variants as s
 use Rattle.framedata.specs.declared.tables.Emptiness.{Emptiness}
 use Rattle.framedata.specs.declared.tables.Emptiness.the-variants as emptiness
 
--- what can be read back is determined
-read-back : {A B : Type 0} (tell : A → B) (read : B → A) → ((x : A) → read (tell x) ≡ x) → (x y : A) → tell x ≡ tell y → x ≡ y
-read-back tell read back x y e = sym (back x) ∙ ap read e ∙ back y
-
 -- the parts of a frame
 abbrev typeOf : ℕ → FrameType
-typeOf n = cond (eqb n 0) type.FPO (cond (eqb n 1) type.Trap (cond (eqb n 2) type.TSS (cond (eqb n 3) type.Standard (cond (eqb n 4) type.FrameData type.Unknown))))
+typeOf n =
+    cond (eqb n 0) type.FPO
+    (cond (eqb n 1) type.Trap
+    (cond (eqb n 2) type.TSS (cond (eqb n 3) type.Standard (cond (eqb n 4) type.FrameData type.Unknown))))
 
 type-back : (x : FrameType) → typeOf (typeNumber x) ≡ x
 type-back type.Unknown = refl
@@ -83,14 +82,11 @@ dataOf f =
 data-back : (x : FrameData) → dataOf (toldFrame x) ≡ x
 data-back x = rw (type-back (x .ty), stack-back (x .«max_stack_size»), program-back (x .program))
 
-abbrev refusalOf : ℕ → Refusal
-refusalOf n = cond (eqb n 1) Length (cond (eqb n 2) Count Order)
-
 -- the answers
 abbrev framedOf : Told Frame → Framed
 framedOf (value f) = framed.Frame (dataOf f)
 framedOf nothing = framed.Nothing
-framedOf (refused n) = cond (eqb n 4) framed.TooLarge (framed.Refused (refusalOf n))
+framedOf (refused n) = cond (eqb n 4) framed.TooLarge (framed.Refused (refusal n))
 
 framed-back : (x : Framed) → framedOf (toldFramed x) ≡ x
 framed-back (framed.Frame f) = ap framed.Frame (data-back f)
@@ -103,7 +99,7 @@ framed-back framed.TooLarge = refl
 abbrev stepOf : FrameCursor → Told Frame → FrameStep
 stepOf c (value f) = step.Frame (dataOf f) c
 stepOf c nothing = step.End c
-stepOf c (refused n) = cond (eqb n 4) (step.TooLarge c) (step.Refused (refusalOf n) c)
+stepOf c (refused n) = cond (eqb n 4) (step.TooLarge c) (step.Refused (refusal n) c)
 
 step-back : (x : FrameStep) → stepOf (toldStep x .cursor) (toldStep x .answer) ≡ x
 step-back (step.Frame f c) = ap (λ (g : FrameData). step.Frame g c) (data-back f)
@@ -116,7 +112,7 @@ step-back (step.TooLarge c) = refl
 abbrev startedOf : Told FrameCursor → FrameStarted
 startedOf (value c) = started.At c
 startedOf nothing = started.Refused Order
-startedOf (refused n) = started.Refused (refusalOf n)
+startedOf (refused n) = started.Refused (refusal n)
 
 started-back : (x : FrameStarted) → startedOf (toldStarted x) ≡ x
 started-back (started.At c) = refl
@@ -127,7 +123,7 @@ started-back (started.Refused Order) = refl
 abbrev emptinessOf : Told Bool → Emptiness
 emptinessOf (value t) = cond t emptiness.Yes emptiness.No
 emptinessOf nothing = emptiness.No
-emptinessOf (refused n) = emptiness.Refused (refusalOf n)
+emptinessOf (refused n) = emptiness.Refused (refusal n)
 
 emptiness-back : (x : Emptiness) → emptinessOf (toldEmptiness x) ≡ x
 emptiness-back emptiness.Yes = refl
@@ -136,22 +132,22 @@ emptiness-back (emptiness.Refused Length) = refl
 emptiness-back (emptiness.Refused Count) = refl
 emptiness-back (emptiness.Refused Order) = refl
 
--- the same is told of one frame only
-pub one-frame : (x y : FrameData) → toldFrame x ≡ toldFrame y → x ≡ y
-one-frame = read-back toldFrame dataOf data-back
+-- a frame
+pub one-frame : (t : Frame) (x y : FrameData) → toldFrame x ≡ t → toldFrame y ≡ t → x ≡ y
+one-frame = one-answer toldFrame dataOf data-back
 
 -- `old_frame_at`, `new_frame_at`
-pub one-framed : (x y : Framed) → toldFramed x ≡ toldFramed y → x ≡ y
-one-framed = read-back toldFramed framedOf framed-back
+pub one-framed : (t : Told Frame) (x y : Framed) → toldFramed x ≡ t → toldFramed y ≡ t → x ≡ y
+one-framed = one-answer toldFramed framedOf framed-back
 
 -- `FrameCursor::step`
-pub one-step : (x y : FrameStep) → toldStep x ≡ toldStep y → x ≡ y
-one-step = read-back toldStep (λ (q : Stepped). stepOf (q .cursor) (q .answer)) step-back
+pub one-step : (t : Stepped) (x y : FrameStep) → toldStep x ≡ t → toldStep y ≡ t → x ≡ y
+one-step = one-answer toldStep (λ (q : Stepped). stepOf (q .cursor) (q .answer)) step-back
 
 -- `start_at`
-pub one-started : (x y : FrameStarted) → toldStarted x ≡ toldStarted y → x ≡ y
-one-started = read-back toldStarted startedOf started-back
+pub one-started : (t : Told FrameCursor) (x y : FrameStarted) → toldStarted x ≡ t → toldStarted y ≡ t → x ≡ y
+one-started = one-answer toldStarted startedOf started-back
 
 -- `is_empty`
-pub one-emptiness : (x y : Emptiness) → toldEmptiness x ≡ toldEmptiness y → x ≡ y
-one-emptiness = read-back toldEmptiness emptinessOf emptiness-back
+pub one-emptiness : (t : Told Bool) (x y : Emptiness) → toldEmptiness x ≡ t → toldEmptiness y ≡ t → x ≡ y
+one-emptiness = one-answer toldEmptiness emptinessOf emptiness-back

@@ -1,96 +1,144 @@
--- Where an iteration starts in a table in order: `entered` says what the place found stands for.
+-- Where an iteration that starts at an address begins, in tables in order.
+--   `starts-there`   the place found in each table is as `Entered` says
+--   `one-entered`    and no other place is
 -- Assumes nothing.
-use mathlib.Core.Path.{_≡_, sym, subst}
+use mathlib.Core.Path.{_≡_, refl, sym, _∙_, subst}
 use mathlib.Core.Logic.{inl, inr, ⊎-elim}
-use Prim.Native.Nat.{ℕ, zero, suc, _-_, _/_, _≤_, _<_}
+use Prim.Native.Nat.{ℕ, zero, suc, _+_, _-_, _/_, _≤_, _<_}
 use native.Mathlib.Nat.{eq-or-lt-of-le, eq-zero-or-pos}
 use native.Mathlib.Omega.{arith}
-use mathlib.Core.Bool.{true}
+use mathlib.Core.Bool.{true, false}
 use mathlib.Core.List.{List}
+use mathlib.Core.Option.{Option, none, some}
 use lib.ListN.{length}
-use borrow.Author.Tests.{lt-ltb, eq-eqb, ne-eqb}
+use Rattle.lent.specs.Paper.{value, unless}
 use Rattle.lent.specs.Order.{rising, keys, keyAt, FirstAbove}
-use Rattle.lent.proofs.Logic.{lt-or-le}
+use Rattle.lent.proofs.Logic.{which, lt-or-le}
 use Rattle.lent.proofs.Rising.{each, in-place}
-use Rattle.framedata.specs.Start.{Block, blockAt, blocks, covers, placeSpec, Entered}
-use Rattle.framedata.proofs.Entering.{enter-first, enter-hit, enter-inside, enter-after}
+use Rattle.framedata.specs.Records.{Span, spanAt, spans}
+use Rattle.framedata.specs.Tables.{faultOfBoth}
+use Rattle.framedata.specs.Start.{covers, placeSpec, Entered, startSpec}
+use Rattle.framedata.specs.declared.cursor.FrameCursor.{FrameCursor}
+use Rattle.framedata.proofs.Picking.{differ}
+use Rattle.framedata.proofs.Entering.{hit, enter-first, enter-before, enter-after, both-good}
 
-module _ (w : ℕ) (s : List ℕ) (a : ℕ) (r : rising (keys w s) ≡ true) where
+module _ (w : ℕ) (s : List ℕ) (a : ℕ) where
   abbrev n : ℕ
   n = length s / w
 
   abbrev f : ℕ → ℕ
   f = keyAt w s
 
-  -- of the first m keys, those up to some place are at most a, and the others above it
-  split : (m : ℕ) → m ≤ n → (k : ℕ) × (k ≤ m) × ((j : ℕ) → j < k → f j ≤ a) × ((j : ℕ) → k ≤ j → j < m → a < f j)
-  split zero h = (0, omega arith, (λ j l. absurd (omega arith)), (λ j l q. absurd (omega arith)))
-  split (suc m) h =
+  -- of two places the later is none
+  not-later : (k m : ℕ) → Entered w s a k → Entered w s a m → k < m → ⊥
+  not-later k m x y h =
+      let inside : m ≤ n = y .within in
+      let below : f k < a = y .before k h in
       ⊎-elim
-      (λ (l : a < f m).
-      let c = split m (omega arith) in (
-        c .0,
-        omega arith,
-        c .2,
-        (λ j p q. ⊎-elim (λ (e : j ≡ m). subst (λ (x : ℕ). a < f x) (sym e) l) (λ (z : j < m). c .3 j p z) (eq-or-lt-of-le (omega arith))),
-      ))
-      (λ (l : f m ≤ a). (suc m, omega arith, (λ j p. omega (arith, in-place f n r j m (omega arith) (omega arith))), (λ j p q. absurd (omega arith))))
-      (lt-or-le a (f m))
+      (λ (c : covers a (spanAt w s k) ≡ true).
+      ⊎-elim
+      (λ (e : k ≡ m - 1).
+      let l = y .later (omega arith) (subst (λ (j : ℕ). covers a (spanAt w s j) ≡ true) e c) in
+      omega (arith, l .1, x .after m h (l .0)))
+      (λ (l : k < m - 1). omega (arith, x .after (m - 1) l (omega arith), y .before (m - 1) (omega arith)))
+      (eq-or-lt-of-le (omega arith)))
+      (λ (g : a < f k). omega arith)
+      (x .there (omega arith))
 
-  -- how many keys are at most a
-  counted : (k : ℕ) × FirstAbove w s a k
-  counted = let c = split n (omega arith) in (c .0, record { within = c .1; below = c .2; above = c .3 })
+  pub one-entered : (k m : ℕ) → Entered w s a k → Entered w s a m → k ≡ m
+  one-entered k m x y =
+      ⊎-elim
+      (λ (h : k < m). absurd (not-later k m x y h))
+      (λ (h : m ≤ k). ⊎-elim (λ (e : m ≡ k). sym e) (λ (l : m < k). absurd (not-later m k y x l)) (eq-or-lt-of-le h))
+      (lt-or-le k m)
 
-  from-first : FirstAbove w s a 0 → Entered w s a 0
-  from-first u = record { before = λ j h. absurd (omega arith); there = λ h. inr (u .above 0 (omega arith) h); after = λ j h l. u .above j (omega arith) l }
+  module _ (r : rising (keys w s) ≡ true) where
+    -- the first record above a, sought from place k on
+    climb : (d k : ℕ) → k + d ≡ n → ((j : ℕ) → j < k → f j ≤ a) → (i : ℕ) × FirstAbove w s a i
+    climb zero k e b = (k, record { within = omega arith; below = b; above = λ j h l. absurd (omega arith) })
+    climb (suc d) k e b =
+        ⊎-elim
+        (λ (l : a < f k).
+        (k, record { within = omega arith; below = b; above = λ j h m. omega (arith, in-place f n r k j h m) }))
+        (λ (l : f k ≤ a).
+        climb d (suc k) (omega arith) (λ j h. omega (arith, in-place f n r j k (omega arith) (omega arith))))
+        (lt-or-le a (f k))
 
-  module _ (k : ℕ) (pos : 0 < k) (u : FirstAbove w s a k) where
-    abbrev x : Block
-    x = blockAt w s (k - 1)
-
-    -- the place just before: the block there covers a
-    from-before : covers a x ≡ true → Entered w s a (k - 1)
-    from-before c =
+    from-first : FirstAbove w s a 0 → Entered w s a 0
+    from-first u =
         record {
-          before = λ j h. omega (arith, each f 0 n r j (k - 1) (omega arith) h (omega (arith, u .within)), u .below (k - 1) (omega arith));
-          there = λ h. inl c;
+          within = omega arith;
+          before = λ j h. absurd (omega arith);
           after = λ j h l. u .above j (omega arith) l;
+          there = λ h. inr (u .above 0 (omega arith) h);
+          later = λ h c. absurd (omega arith);
         }
 
-    -- the place after it: it is no hit
-    from-after : (x .start ≡ a → ⊥) → Entered w s a k
-    from-after miss =
-        record {
-          before = λ j h. ⊎-elim
-              (λ (e : j ≡ k - 1). subst (λ (y : ℕ). f y < a) (sym e) (omega (arith, u .below (k - 1) (omega arith))))
-              (λ (l : j < k - 1). omega (arith, each f 0 n r j (k - 1) (omega arith) l (omega (arith, u .within)), u .below (k - 1) (omega arith)))
-              (eq-or-lt-of-le (omega arith));
-          there = λ h. inr (u .above k (omega arith) h);
-          after = λ j h l. u .above j (omega arith) l;
-        }
+    module _ (k : ℕ) (pos : 0 < k) (u : FirstAbove w s a k) where
+      abbrev x : Span
+      x = spanAt w s (k - 1)
 
-    by-cases : Entered w s a (placeSpec a (blocks w s))
-    by-cases =
-        ⊎-elim
-        (λ (l : x .start < a).
-        let miss : x .start ≡ a → ⊥ = λ e. omega arith in
-        ⊎-elim
-        (λ (h : a - x .start < x .size).
-        subst (Entered w s a) (sym (enter-inside w s a k pos u miss h)) (from-before (rw (ne-eqb (x .start) a miss, lt-ltb (a - x .start) (x .size) h))))
-        (λ (h : x .size ≤ a - x .start). subst (Entered w s a) (sym (enter-after w s a k pos u miss h)) (from-after miss))
-        (lt-or-le (a - x .start) (x .size)))
-        (λ (l : a ≤ x .start).
-        let e : x .start ≡ a = omega (arith, u .below (k - 1) (omega arith)) in
-        subst (Entered w s a) (sym (enter-hit w s a k pos u e)) (from-before (rw (eq-eqb (x .start) a e))))
-        (lt-or-le (x .start) a)
+      -- records before the one just before the address begin before it
+      earlier : (j : ℕ) → j < k - 1 → f j < a
+      earlier j h =
+          let at : f (k - 1) ≤ a = u .below (k - 1) (omega arith) in
+          omega (arith, each f 0 n r j (k - 1) (omega arith) h (omega (arith, u .within)))
 
-  -- the block at the place found covers a or begins after it; those before begin before a, those after begin after a
-  pub entered : Entered w s a (placeSpec a (blocks w s))
-  entered =
-      let c = counted in
-      ⊎-elim
-      (λ (e : c .0 ≡ 0).
-      let u : FirstAbove w s a 0 = subst (FirstAbove w s a) e (c .1) in
-      subst (Entered w s a) (sym (enter-first w s a u)) (from-first u))
-      (λ (h : 0 < c .0). by-cases (c .0) h (c .1))
-      (eq-zero-or-pos (c .0))
+      from-before : covers a x ≡ true → Entered w s a (k - 1)
+      from-before c =
+          record {
+            within = omega (arith, u .within);
+            before = earlier;
+            after = λ j h l. u .above j (omega arith) l;
+            there = λ h. inl c;
+            later = λ h d. (omega (arith, u .within), u .below (k - 1) (omega arith));
+          }
+
+      from-after : covers a x ≡ false → Entered w s a k
+      from-after c =
+          let miss : f (k - 1) < a
+          = ⊎-elim
+          (λ (e : f (k - 1) ≡ a). absurd (differ (sym c ∙ hit a x e)))
+          (λ (l : f (k - 1) < a). l)
+          (eq-or-lt-of-le (u .below (k - 1) (omega arith))) in
+          record {
+            within = u .within;
+            before = λ j h. ⊎-elim
+                (λ (e : j ≡ k - 1). subst (λ (y : ℕ). f y < a) (sym e) miss) (earlier j) (eq-or-lt-of-le (omega arith));
+            after = λ j h l. u .above j (omega arith) l;
+            there = λ h. inr (u .above k (omega arith) h);
+            later = λ h d. absurd (differ (sym c ∙ d));
+          }
+
+      by-cases : Entered w s a (placeSpec a (spans w s))
+      by-cases =
+          ⊎-elim
+          (λ (c : covers a x ≡ true). subst (Entered w s a) (sym (enter-before w s a k pos u c)) (from-before c))
+          (λ (c : covers a x ≡ false). subst (Entered w s a) (sym (enter-after w s a k pos u c)) (from-after c))
+          (which (covers a x))
+
+    pub entered : Entered w s a (placeSpec a (spans w s))
+    entered =
+        let c = climb n 0 (omega arith) (λ j h. absurd (omega arith)) in
+        ⊎-elim
+        (λ (e : c .0 ≡ 0).
+        let u : FirstAbove w s a 0 = subst (FirstAbove w s a) e (c .1) in
+        subst (Entered w s a) (sym (enter-first w s a u)) (from-first u))
+        (λ (h : 0 < c .0). by-cases (c .0) h (c .1))
+        (eq-zero-or-pos (c .0))
+
+-- a value is told where nothing is refused
+told-value : (fault : Option ℕ) (x y : FrameCursor) → unless fault (value x) ≡ value y → (fault ≡ none) × (x ≡ y)
+told-value none x y e = (refl, cc)
+told-value (some m) x y e = (cc, cc)
+
+-- the place in each table of the cursor that starts at an address
+pub starts-there : (a : ℕ) (s t : List ℕ) (c : FrameCursor) → startSpec a s t ≡ value c
+    → Entered 16 s a (c .«old_index») × Entered 32 t a (c .«new_index»)
+unfolding startSpec
+starts-there a s t c e =
+    let g = told-value (faultOfBoth s t) _ c e in
+    let r = both-good s t (g .0) in (
+      subst (λ (d : FrameCursor). Entered 16 s a (d .«old_index»)) (g .1) (entered 16 s a (r .0)),
+      subst (λ (d : FrameCursor). Entered 32 t a (d .«new_index»)) (g .1) (entered 32 t a (r .1)),
+    )

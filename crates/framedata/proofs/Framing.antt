@@ -1,20 +1,22 @@
--- What one place of one table answers, from plain facts.
+-- What the operations answer, from plain facts: a table's refusal first, then what stands at a place.
 -- Assumes nothing.
-use mathlib.Core.Path.{_≡_, ap, _∙_}
-use Prim.Native.Nat.{ℕ, _*_, _≤_, _<_}
-use mathlib.Core.List.{List}
-use mathlib.Core.Option.{none, some}
-use borrow.Author.Tests.{lt-ltb, le-ltb, le-leb, lt-leb}
-use Rattle.lent.specs.Paper.{value, refused}
-use Rattle.framedata.specs.Records.{OldFrame, before}
-use Rattle.framedata.specs.Frame.{fromOld, toldOld}
+use mathlib.Core.Path.{_≡_, sym, ap, _∙_}
+use Prim.Native.Nat.{ℕ, _≤_, _<_}
+use mathlib.Core.Option.{Option, none, some}
+use borrow.Author.Tests.{lt-ltb, le-ltb}
+use Rattle.lent.specs.Paper.{number, toldChecked}
+use Rattle.lent.specs.declared.Refusal.{Refusal}
+use Rattle.lent.specs.declared.Checked.{Checked}
+use Rattle.lent.specs.declared.Checked.the-variants as checked
+use Rattle.framedata.specs.Records.{before}
 
-module _ (o : OldFrame) where
-  pub fitting : o .localsSize * 4 ≤ 4294967295 → toldOld o ≡ value (fromOld o)
-  fitting h = rw (le-leb (o .localsSize * 4) 4294967295 h)
+-- what a test of the tables found: their refusal, or none
+module _ {r : Checked} {fault : Option ℕ} (told : toldChecked r ≡ fault) where
+  pub bad : {why : Refusal} → r ≡ checked.Refused why → fault ≡ some (number why)
+  bad e = sym told ∙ ap toldChecked e
 
-  pub too-large : 4294967295 < o .localsSize * 4 → toldOld o ≡ refused 4
-  too-large h = rw (lt-leb (o .localsSize * 4) 4294967295 h)
+  pub good : r ≡ checked.Good → fault ≡ none
+  good e = sym told ∙ ap toldChecked e
 
 module _ {A : Type 0} (f : ℕ → A) (n i : ℕ) where
   pub there : i < n → before n f i ≡ some (f i)
@@ -22,7 +24,3 @@ module _ {A : Type 0} (f : ℕ → A) (n i : ℕ) where
 
   pub used-up : n ≤ i → before n f i ≡ none
   used-up h = rw (le-ltb i n h)
-
--- what is told of two tables is told of two equal ones
-pub of-both : {A : Type 0} (F : List ℕ → List ℕ → A) {s t u v : List ℕ} → s ≡ u → t ≡ v → F s t ≡ F u v
-of-both F {t = t} {u = u} p q = ap (λ (x : List ℕ). F x t) p ∙ ap (F u) q

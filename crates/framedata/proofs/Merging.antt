@@ -1,40 +1,31 @@
 -- What merging two lists of records keeps: every new record, every old one that is not passed over, and the order.
 -- Assumes nothing.
 use mathlib.Core.Path.{_≡_, refl, sym, ap, subst}
-use mathlib.Core.Logic.{⊎-elim}
-use Prim.Native.Nat.{ℕ, _≤_, _<_}
-use native.Mathlib.Omega.{arith}
+use Prim.Native.Nat.{ℕ, _<_}
 use mathlib.Core.Bool.{Bool, true}
 use mathlib.Core.List.{List, [], _∷_, map}
 use lib.Dec.{ltb}
 use borrow.Author.Tests.{lt-ltb, ltb-true, eq-eqb}
 use Rattle.lent.specs.Order.{risingAfter, rising}
 use Rattle.lent.proofs.Rising.{after-rising}
-use Rattle.lent.proofs.Logic.{lt-or-le, and-left, and-right}
+use Rattle.lent.proofs.Logic.{and-left, and-right}
 use Rattle.framedata.specs.Records.{OldFrame, NewFrame}
 use Rattle.framedata.specs.Frame.{fromOld, fromNew}
-use Rattle.framedata.specs.Step.{Pick, old, new, both, lesser}
+use Rattle.framedata.specs.Step.{Pick, old, new, both}
 use Rattle.framedata.specs.Merge.{followed, merge, startsOf, newsOf, oldsOf, passedOnEquality}
-use Rattle.framedata.proofs.Picking.{old-lesser, new-lesser, equal}
+use Rattle.framedata.proofs.Picking.{by-lesser}
 
--- to show a thing of the lesser of two records, show it in three cases
-pub by-lesser : (P : Pick → Type 0) (o : OldFrame) (n : NewFrame)
-    → (o .codeStart < n .codeStart → P (old o)) → (n .codeStart < o .codeStart → P (new n)) → (n .codeStart ≡ o .codeStart → P (both n o)) → P (lesser o n)
-by-lesser P o n below above same =
-    ⊎-elim
-    (λ (h : o .codeStart < n .codeStart). subst P (sym (old-lesser o n h)) (below h))
-    (λ (h : n .codeStart ≤ o .codeStart).
-    ⊎-elim
-    (λ (l : n .codeStart < o .codeStart). subst P (sym (new-lesser o n l)) (above l))
-    (λ (l : o .codeStart ≤ n .codeStart). let e : n .codeStart ≡ o .codeStart = omega arith in subst P (sym (equal o n e)) (same e))
-    (lt-or-le (n .codeStart) (o .codeStart)))
-    (lt-or-le (o .codeStart) (n .codeStart))
+abbrev pub oldStart : OldFrame → ℕ
+oldStart o = o .span .codeStart
+
+abbrev pub newStart : NewFrame → ℕ
+newStart n = n .span .codeStart
 
 abbrev pub oldStarts : List OldFrame → List ℕ
-oldStarts os = map (λ (o : OldFrame). o .codeStart) os
+oldStarts os = map oldStart os
 
 abbrev pub newStarts : List NewFrame → List ℕ
-newStarts ns = map (λ (n : NewFrame). n .codeStart) ns
+newStarts ns = map newStart ns
 
 -- the first number, if there is one, is greater than x
 abbrev startsAfter : ℕ → List ℕ → Bool
@@ -42,20 +33,27 @@ startsAfter x [] = true
 startsAfter x (y ∷ l) = ltb x y
 
 -- to show a thing of a merge, show it of no records, and that it is kept by each kind of pick
-by-merge : (P : List OldFrame → List NewFrame → List Pick → Type 0)
+pub by-merge : (P : List OldFrame → List NewFrame → List Pick → Type 0)
     → P [] [] []
-    → ((o : OldFrame) (os : List OldFrame) (ns : List NewFrame) (l : List Pick) → startsAfter (o .codeStart) (newStarts ns) ≡ true → P os ns l → P (o ∷ os) ns (old o ∷ l))
-    → ((n : NewFrame) (os : List OldFrame) (ns : List NewFrame) (l : List Pick) → startsAfter (n .codeStart) (oldStarts os) ≡ true → P os ns l → P os (n ∷ ns) (new n ∷ l))
-    → ((n : NewFrame) (o : OldFrame) (os : List OldFrame) (ns : List NewFrame) (l : List Pick) → n .codeStart ≡ o .codeStart → P os ns l → P (o ∷ os) (n ∷ ns) (both n o ∷ l))
+    → ((o : OldFrame) (os : List OldFrame) (ns : List NewFrame) (l : List Pick)
+    → startsAfter (oldStart o) (newStarts ns) ≡ true → P os ns l → P (o ∷ os) ns (old o ∷ l))
+    → ((n : NewFrame) (os : List OldFrame) (ns : List NewFrame) (l : List Pick)
+    → startsAfter (newStart n) (oldStarts os) ≡ true → P os ns l → P os (n ∷ ns) (new n ∷ l))
+    → ((n : NewFrame) (o : OldFrame) (os : List OldFrame) (ns : List NewFrame) (l : List Pick) → newStart n ≡ oldStart o
+    → P os ns l → P (o ∷ os) (n ∷ ns) (both n o ∷ l))
     → (os : List OldFrame) (ns : List NewFrame) → P os ns (merge os ns)
 unfolding merge
 by-merge P none one two three [] [] = none
 by-merge P none one two three [] (n ∷ ns) = two n [] ns (merge [] ns) refl (by-merge P none one two three [] ns)
 by-merge P none one two three (o ∷ os) [] = one o os [] (merge os []) refl (by-merge P none one two three os [])
 by-merge P none one two three (o ∷ os) (n ∷ ns) =
-    by-lesser (λ (p : Pick). P (o ∷ os) (n ∷ ns) (followed p (merge os (n ∷ ns)) (merge (o ∷ os) ns) (merge os ns))) o n
-    (λ h. one o os (n ∷ ns) (merge os (n ∷ ns)) (lt-ltb (o .codeStart) (n .codeStart) h) (by-merge P none one two three os (n ∷ ns)))
-    (λ h. two n (o ∷ os) ns (merge (o ∷ os) ns) (lt-ltb (n .codeStart) (o .codeStart) h) (by-merge P none one two three (o ∷ os) ns))
+    by-lesser o n (λ (p : Pick). P (o ∷ os) (n ∷ ns) (followed p (merge os (n ∷ ns)) (merge (o ∷ os) ns) (merge os ns)))
+    (λ h.
+    one o os (n ∷ ns) (merge os (n ∷ ns)) (lt-ltb (oldStart o) (newStart n) h)
+    (by-merge P none one two three os (n ∷ ns)))
+    (λ h.
+    two n (o ∷ os) ns (merge (o ∷ os) ns) (lt-ltb (newStart n) (oldStart o) h)
+    (by-merge P none one two three (o ∷ os) ns))
     (λ e. three n o os ns (merge os ns) e (by-merge P none one two three os ns))
 
 -- every new record is yielded, once and in order
@@ -83,7 +81,7 @@ passed-on-equality =
     by-merge (λ os ns l. passedOnEquality l ≡ true) refl
     (λ o os ns l h k. k)
     (λ n os ns l h k. k)
-    (λ n o os ns l e k. rw (eq-eqb (n .codeStart) (o .codeStart) e) k)
+    (λ n o os ns l e k. rw (eq-eqb (n .span .codeStart) (o .span .codeStart) e) k)
 
 module _ (p x : ℕ) (l : List ℕ) where
   up : risingAfter p (x ∷ l) ≡ true → p < x
@@ -105,37 +103,58 @@ after-first x (y ∷ l) h r = put x y l (ltb-true x y h) r
 
 -- the code starts rise, and do so after any p that both lists rise after
 pub record Rises (os : List OldFrame) (ns : List NewFrame) (l : List Pick) : Type 0 where
-  pub after : (p : ℕ) → risingAfter p (oldStarts os) ≡ true → risingAfter p (newStarts ns) ≡ true → risingAfter p (startsOf l) ≡ true
+  pub after : (p : ℕ) → risingAfter p (oldStarts os) ≡ true → risingAfter p (newStarts ns) ≡ true
+      → risingAfter p (startsOf l) ≡ true
   pub whole : rising (oldStarts os) ≡ true → rising (newStarts ns) ≡ true → rising (startsOf l) ≡ true
 
-rises-old : (o : OldFrame) (os : List OldFrame) (ns : List NewFrame) (l : List Pick) → startsAfter (o .codeStart) (newStarts ns) ≡ true → Rises os ns l → Rises (o ∷ os) ns (old o ∷ l)
-unfolding rising fromOld
-rises-old o os ns l h k =
-    let x = o .codeStart in
-    record {
-      after = λ p r q. put p x (startsOf l) (up p x (oldStarts os) r) (k .after x (on p x (oldStarts os) r) (after-first x (newStarts ns) h (after-rising p (newStarts ns) q)));
-      whole = λ r q. k .after x r (after-first x (newStarts ns) h q);
-    }
+-- what comes first begins after p, and the others rise after it
+first : (p x : ℕ) (l m : List ℕ) → risingAfter p (x ∷ m) ≡ true → risingAfter x l ≡ true → risingAfter p (x ∷ l) ≡ true
+first p x l m r k = put p x l (up p x m r) k
 
-rises-new : (n : NewFrame) (os : List OldFrame) (ns : List NewFrame) (l : List Pick) → startsAfter (n .codeStart) (oldStarts os) ≡ true → Rises os ns l → Rises os (n ∷ ns) (new n ∷ l)
-unfolding rising fromNew
-rises-new n os ns l h k =
-    let x = n .codeStart in
-    record {
-      after = λ p r q. put p x (startsOf l) (up p x (newStarts ns) q) (k .after x (after-first x (oldStarts os) h (after-rising p (oldStarts os) r)) (on p x (newStarts ns) q));
-      whole = λ r q. k .after x (after-first x (oldStarts os) h r) q;
-    }
+module _ (os : List OldFrame) (ns : List NewFrame) (l : List Pick) where
+  rises-old : (o : OldFrame) → startsAfter (oldStart o) (newStarts ns) ≡ true → Rises os ns l
+      → Rises (o ∷ os) ns (old o ∷ l)
+  unfolding rising fromOld
+  rises-old o h k =
+      let x = oldStart o in
+      let on-new = after-first x (newStarts ns) h in
+      record {
+        after = λ p r q. first p x (startsOf l) (oldStarts os) r
+            (k .after x (on p x (oldStarts os) r) (on-new (after-rising p (newStarts ns) q)));
+        whole = λ r q. k .after x r (on-new q);
+      }
 
-rises-both : (n : NewFrame) (o : OldFrame) (os : List OldFrame) (ns : List NewFrame) (l : List Pick) → n .codeStart ≡ o .codeStart → Rises os ns l → Rises (o ∷ os) (n ∷ ns) (both n o ∷ l)
-unfolding rising fromNew
-rises-both n o os ns l e k =
-    let x = n .codeStart in
-    let olds : risingAfter (o .codeStart) (oldStarts os) ≡ true → risingAfter x (oldStarts os) ≡ true = subst (λ (y : ℕ). risingAfter y (oldStarts os) ≡ true) (sym e) in
-    record {
-      after = λ p r q. put p x (startsOf l) (up p x (newStarts ns) q) (k .after x (olds (on p (o .codeStart) (oldStarts os) r)) (on p x (newStarts ns) q));
-      whole = λ r q. k .after x (olds r) q;
-    }
+  rises-new : (n : NewFrame) → startsAfter (newStart n) (oldStarts os) ≡ true → Rises os ns l
+      → Rises os (n ∷ ns) (new n ∷ l)
+  unfolding rising fromNew
+  rises-new n h k =
+      let x = newStart n in
+      let on-old = after-first x (oldStarts os) h in
+      record {
+        after = λ p r q. first p x (startsOf l) (newStarts ns) q
+            (k .after x (on-old (after-rising p (oldStarts os) r)) (on p x (newStarts ns) q));
+        whole = λ r q. k .after x (on-old r) q;
+      }
+
+  rises-both : (n : NewFrame) (o : OldFrame) → newStart n ≡ oldStart o → Rises os ns l
+      → Rises (o ∷ os) (n ∷ ns) (both n o ∷ l)
+  unfolding rising fromNew
+  rises-both n o e k =
+      let x = newStart n in
+      let on-old : risingAfter (oldStart o) (oldStarts os) ≡ true → risingAfter x (oldStarts os) ≡ true
+      = subst (λ (y : ℕ). risingAfter y (oldStarts os) ≡ true) (sym e) in
+      record {
+        after = λ p r q. first p x (startsOf l) (newStarts ns) q
+            (k .after x (on-old (on p (oldStart o) (oldStarts os) r)) (on p x (newStarts ns) q));
+        whole = λ r q. k .after x (on-old r) q;
+      }
 
 -- where both lists rise strictly, so do the code starts that are yielded
-pub merge-rises : (os : List OldFrame) (ns : List NewFrame) → rising (oldStarts os) ≡ true → rising (newStarts ns) ≡ true → rising (startsOf (merge os ns)) ≡ true
-merge-rises os ns = by-merge Rises (record { after = λ p r q. r; whole = λ r q. r }) rises-old rises-new rises-both os ns .whole
+pub merge-rises : (os : List OldFrame) (ns : List NewFrame)
+    → rising (oldStarts os) ≡ true → rising (newStarts ns) ≡ true → rising (startsOf (merge os ns)) ≡ true
+merge-rises os ns =
+    by-merge Rises (record { after = λ p r q. r; whole = λ r q. r })
+    (λ o os ns l h k. rises-old os ns l o h k)
+    (λ n os ns l h k. rises-new os ns l n h k)
+    (λ n o os ns l e k. rises-both os ns l n o e k)
+    os ns .whole

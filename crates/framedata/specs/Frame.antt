@@ -5,9 +5,10 @@ use mathlib.Core.List.{List}
 use mathlib.Core.Option.{Option, none, some}
 use lib.Dec.{leb}
 use Rattle.lent.specs.Paper.{Told, value, nothing, refused, unless, number}
+use Rattle.lent.specs.Words.{isSet}
 use Rattle.lent.specs.Table.{oldFrameShape, newFrameShape}
 use Rattle.framedata.specs.Records.{OldFrame, NewFrame, oldAt, newAt}
-use Rattle.framedata.specs.Attributes.{attributes, set, typeNumber}
+use Rattle.framedata.specs.Attributes.{attributes, typeNumber}
 use Rattle.framedata.specs.declared.frame.StackSize.{StackSize}
 use Rattle.framedata.specs.declared.frame.StackSize.the-variants as stack
 use Rattle.framedata.specs.declared.frame.Program.{Program}
@@ -39,8 +40,8 @@ unfoldable pub fromOld : OldFrame → Frame
 fromOld o =
     record {
       ty = attributes (o .attributes) .ty;
-      codeStart = o .codeStart;
-      codeSize = o .codeSize;
+      codeStart = o .span .codeStart;
+      codeSize = o .span .codeSize;
       localsSize = o .localsSize * 4;
       paramsSize = o .paramsSize * 4;
       prologSize = attributes (o .attributes) .prologSize;
@@ -58,16 +59,16 @@ unfoldable pub fromNew : NewFrame → Frame
 fromNew n =
     record {
       ty = 4;
-      codeStart = n .codeStart;
-      codeSize = n .codeSize;
+      codeStart = n .span .codeStart;
+      codeSize = n .span .codeSize;
       localsSize = n .localsSize;
       paramsSize = n .paramsSize;
       prologSize = n .prologSize;
       savedRegsSize = n .savedRegsSize;
       maxStackSize = some (n .maxStackSize);
-      hasStructuredEh = set 1 (n .flags);
-      hasCppEh = set 2 (n .flags);
-      isFunctionStart = set 4 (n .flags);
+      hasStructuredEh = isSet 1 (n .flags);
+      hasCppEh = isSet 2 (n .flags);
+      isFunctionStart = isSet 4 (n .flags);
       usesBasePointer = false;
       program = some (n .frameFunc);
     }

@@ -1,14 +1,15 @@
 -- The whole iteration: all that the steps yield, one after the other.
-use Prim.Native.Nat.{ℕ, zero, suc, _-_, _/_}
-use mathlib.Core.Bool.{Bool, true, _&&_}
+use Prim.Native.Nat.{ℕ, zero, suc, _+_, _-_, _/_}
+use mathlib.Core.Path.{_≡_}
+use mathlib.Core.Bool.{Bool, true, cond, _&&_}
 use mathlib.Core.List.{List, [], _∷_, _++_, map}
-use lib.ListN.{length}
+use lib.ListN.{length, replicate}
 use lib.Dec.{eqb}
-use Rattle.lent.specs.Paper.{Told, value, nothing}
+use Rattle.lent.specs.Paper.{Told, value}
 use Rattle.lent.specs.Table.{listed}
 use Rattle.framedata.specs.Records.{OldFrame, NewFrame, oldRecord, newRecord}
-use Rattle.framedata.specs.Frame.{Frame, fromOld, fromNew, fits}
-use Rattle.framedata.specs.Step.{Pick, old, new, both, lesser, stepSpec}
+use Rattle.framedata.specs.Frame.{Frame}
+use Rattle.framedata.specs.Step.{Pick, old, new, both, lesser, frame, pickFits, stepSpec}
 use Rattle.framedata.specs.declared.cursor.FrameCursor.{FrameCursor}
 
 -- a pick, and what follows it: after an old one, after a new one, after both
@@ -35,27 +36,35 @@ newsFrom t j = listed (newRecord t) j (length t / 32 - j)
 abbrev pub left : List ℕ → List ℕ → FrameCursor → List Pick
 left s t c = merge (oldsFrom s (c .«old_index»)) (newsFrom t (c .«new_index»))
 
--- the frame that is yielded
-abbrev pub frame : Pick → Frame
-frame (old o) = fromOld o
-frame (new n) = fromNew n
-frame (both n o) = fromNew n
-
--- no frame that is yielded is too large
+-- no frame is too large
 unfoldable pub allFit : List Pick → Bool
 allFit [] = true
-allFit (old o ∷ l) = fits o && allFit l
-allFit (new n ∷ l) = allFit l
-allFit (both n o ∷ l) = allFit l
+allFit (p ∷ l) = pickFits p && allFit l
+
+-- what comes before the first frame that is too large
+unfoldable pub untilTooLarge : List Pick → List Pick
+untilTooLarge [] = []
+untilTooLarge (p ∷ l) = cond (pickFits p) (p ∷ untilTooLarge l) []
 
 -- the answers of k steps, each with the cursor that the one before it handed on
 unfoldable pub answers : ℕ → List ℕ → List ℕ → FrameCursor → List (Told Frame)
 answers zero s t c = []
 answers (suc k) s t c = stepSpec s t c .answer ∷ answers k s t (stepSpec s t c .cursor)
 
--- the answers that tell a list of picks: each frame, and then the end
-abbrev pub told : List Pick → List (Told Frame)
-told l = map (λ (p : Pick). value (frame p)) l ++ (nothing ∷ [])
+-- the cursor that the last of k steps hands on
+unfoldable pub cursorAfter : ℕ → List ℕ → List ℕ → FrameCursor → FrameCursor
+cursorAfter zero s t c = c
+cursorAfter (suc k) s t c = cursorAfter k s t (stepSpec s t c .cursor)
+
+-- the answers that yield each frame
+abbrev pub eachFrame : List Pick → List (Told Frame)
+eachFrame l = map (λ (p : Pick). value (frame p)) l
+
+-- From the cursor c the steps yield the frames of l, one after the other. Every further step answers x and hands back
+-- the cursor that it was given.
+pub record YieldsThen (s t : List ℕ) (c : FrameCursor) (l : List Pick) (x : Told Frame) : Type 0 where
+  pub told : (k : ℕ) → answers (length l + k) s t c ≡ eachFrame l ++ replicate k x
+  pub stays : (k : ℕ) → cursorAfter (length l + k) s t c ≡ cursorAfter (length l) s t c
 
 -- the code starts of the frames that are yielded
 abbrev pub startsOf : List Pick → List ℕ
@@ -80,4 +89,4 @@ unfoldable pub passedOnEquality : List Pick → Bool
 passedOnEquality [] = true
 passedOnEquality (old o ∷ l) = passedOnEquality l
 passedOnEquality (new n ∷ l) = passedOnEquality l
-passedOnEquality (both n o ∷ l) = eqb (n .codeStart) (o .codeStart) && passedOnEquality l
+passedOnEquality (both n o ∷ l) = eqb (n .span .codeStart) (o .span .codeStart) && passedOnEquality l

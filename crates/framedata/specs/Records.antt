@@ -8,16 +8,30 @@ use lib.Dec.{ltb}
 use Rattle.lent.specs.Le.{leAt}
 use Rattle.lent.specs.Table.{listed}
 
--- An old record, `struct _FPO_DATA`, has 16 bytes:
+-- Where a record of either kind stands, and the code that it is about. Both kinds begin with it:
 --    offset  bytes  field
 --     0      4      code_start
 --     4      4      code_size
+pub record Span : Type 0 where
+  pub place : ℕ
+  pub codeStart : ℕ
+  pub codeSize : ℕ
+
+-- the span of the record at place i, where a record has w bytes
+abbrev pub spanAt : ℕ → List ℕ → ℕ → Span
+spanAt w s i = record { place = i; codeStart = leAt 4 s (w * i); codeSize = leAt 4 s (w * i + 4) }
+
+-- the spans of all whole records, in order of place
+abbrev pub spans : ℕ → List ℕ → List Span
+spans w s = listed (spanAt w s) 0 (length s / w)
+
+-- An old record, `struct _FPO_DATA`, has 16 bytes: its span, and
+--    offset  bytes  field
 --     8      4      locals_size, in steps of 4 bytes
 --    12      2      params_size, in steps of 4 bytes
 --    14      2      attributes
 pub record OldFrame : Type 0 where
-  pub codeStart : ℕ
-  pub codeSize : ℕ
+  pub span : Span
   pub localsSize : ℕ
   pub paramsSize : ℕ
   pub attributes : ℕ
@@ -26,17 +40,14 @@ pub record OldFrame : Type 0 where
 abbrev pub oldRecord : List ℕ → ℕ → OldFrame
 oldRecord s i =
     record {
-      codeStart = leAt 4 s (16 * i);
-      codeSize = leAt 4 s (16 * i + 4);
+      span = spanAt 16 s i;
       localsSize = leAt 4 s (16 * i + 8);
       paramsSize = leAt 2 s (16 * i + 12);
       attributes = leAt 2 s (16 * i + 14);
     }
 
--- A new record, `struct tagFRAMEDATA`, has 32 bytes:
+-- A new record, `struct tagFRAMEDATA`, has 32 bytes: its span, and
 --    offset  bytes  field
---     0      4      code_start
---     4      4      code_size
 --     8      4      locals_size
 --    12      4      params_size
 --    16      4      max_stack_size
@@ -45,8 +56,7 @@ oldRecord s i =
 --    26      2      saved_regs_size
 --    28      4      flags
 pub record NewFrame : Type 0 where
-  pub codeStart : ℕ
-  pub codeSize : ℕ
+  pub span : Span
   pub localsSize : ℕ
   pub paramsSize : ℕ
   pub maxStackSize : ℕ
@@ -59,8 +69,7 @@ pub record NewFrame : Type 0 where
 abbrev pub newRecord : List ℕ → ℕ → NewFrame
 newRecord s i =
     record {
-      codeStart = leAt 4 s (32 * i);
-      codeSize = leAt 4 s (32 * i + 4);
+      span = spanAt 32 s i;
       localsSize = leAt 4 s (32 * i + 8);
       paramsSize = leAt 4 s (32 * i + 12);
       maxStackSize = leAt 4 s (32 * i + 16);

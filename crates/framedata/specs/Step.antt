@@ -1,12 +1,12 @@
 -- One step of the merged iteration over both tables.
 use Prim.Native.Nat.{ℕ, _+_}
-use mathlib.Core.Bool.{cond}
+use mathlib.Core.Bool.{Bool, true, cond}
 use mathlib.Core.List.{List}
 use mathlib.Core.Option.{Option, none, some}
 use lib.Dec.{ltb}
 use Rattle.lent.specs.Paper.{Told, value, nothing, refused, number}
 use Rattle.framedata.specs.Records.{OldFrame, NewFrame, oldAt, newAt}
-use Rattle.framedata.specs.Frame.{Frame, fromNew, toldOld, toldFrame}
+use Rattle.framedata.specs.Frame.{Frame, fromOld, fromNew, fits, toldFrame}
 use Rattle.framedata.specs.Tables.{shapeOfBoth}
 use Rattle.framedata.specs.declared.cursor.FrameCursor.{FrameCursor}
 use Rattle.framedata.specs.declared.cursor.Next.{Next}
@@ -22,7 +22,9 @@ pub data Pick : Type 0 where
 
 -- the lesser code_start first; on equality the new one alone
 unfoldable pub lesser : OldFrame → NewFrame → Pick
-lesser o n = cond (ltb (o .codeStart) (n .codeStart)) (old o) (cond (ltb (n .codeStart) (o .codeStart)) (new n) (both n o))
+lesser o n =
+    cond (ltb (o .span .codeStart) (n .span .codeStart)) (old o)
+    (cond (ltb (n .span .codeStart) (o .span .codeStart)) (new n) (both n o))
 
 -- what comes next, of two tables that may each be used up
 abbrev pub pick : Option OldFrame → Option NewFrame → Option Pick
@@ -40,11 +42,21 @@ pub record Stepped : Type 0 where
   pub answer : Told Frame
   pub cursor : FrameCursor
 
--- the frame that is yielded; only an old one can be refused, with 4
+-- the frame of what comes next
+abbrev pub frame : Pick → Frame
+frame (old o) = fromOld o
+frame (new n) = fromNew n
+frame (both n o) = fromNew n
+
+-- only an old frame can be too large
+abbrev pub pickFits : Pick → Bool
+pickFits (old o) = fits o
+pickFits (new n) = true
+pickFits (both n o) = true
+
+-- the frame that is yielded: 4 if it is too large
 abbrev pub frameOf : Pick → Told Frame
-frameOf (old o) = toldOld o
-frameOf (new n) = value (fromNew n)
-frameOf (both n o) = value (fromNew n)
+frameOf p = cond (pickFits p) (value (frame p)) (refused 4)
 
 -- the cursor past what is yielded; on equality both advance
 abbrev pub past : FrameCursor → Pick → FrameCursor
@@ -58,14 +70,14 @@ handed c next (value f) = record { answer = value f; cursor = next }
 handed c next nothing = record { answer = nothing; cursor = c }
 handed c next (refused why) = record { answer = refused why; cursor = c }
 
--- with no record left it is the end
-abbrev pub yielded : FrameCursor → Option Pick → Stepped
-yielded c none = handed c c nothing
-yielded c (some p) = handed c (past c p) (frameOf p)
+-- the step to what comes next; with no record left it is the end
+abbrev pub stepTo : FrameCursor → Option Pick → Stepped
+stepTo c none = handed c c nothing
+stepTo c (some p) = handed c (past c p) (frameOf p)
 
 -- a refusal of a table comes first
 abbrev pub unlessRefused : FrameCursor → Option ℕ → Option Pick → Stepped
-unlessRefused c none p = yielded c p
+unlessRefused c none p = stepTo c p
 unlessRefused c (some why) p = handed c c (refused why)
 
 unfoldable pub stepSpec : List ℕ → List ℕ → FrameCursor → Stepped

@@ -5,12 +5,12 @@ ghost use Rattle.framedata.specs.Records.{oldRecord, newRecord, oldAt, n
 ghost use Rattle.framedata.specs.Step.{atStart, pick, stepSpec, toldStep, toldNext};
 use crate::frame::Decoded;
 use crate::frame::FrameData;
-use crate::frame::NEW;
-use crate::frame::OLD;
 use crate::frame::new_frame;
 use crate::frame::old_frame;
 use crate::tables::shapes;
 use lent::Checked;
+use lent::NEW_FRAME;
+use lent::OLD_FRAME;
 use lent::Refusal;
 
 // Where an iteration stands: the place of the next record in each table.
@@ -42,19 +42,22 @@ pub enum Next {
 
 // Which of the records at i and at j comes next.
 fn lesser(old: &[u8], i: usize, new: &[u8], j: usize) -> Next
-    ensures { λ r. ⌜ toldNext (oldRecord (now (old .entry)) i) (newRecord (now (new .entry)) j) r ≡ pick (oldAt (now (old .entry)) i) (newAt (now (new .entry)) j) ⌝ }
+    ensures { λ r. ⌜
+        toldNext (oldRecord (now (old .entry)) i) (newRecord (now (new .entry)) j) r
+        ≡ pick (oldAt (now (old .entry)) i) (newAt (now (new .entry)) j)
+        ⌝ }
 {
-    if i >= old.len() / OLD {
-        if j >= new.len() / NEW {
+    if i >= old.len() / OLD_FRAME {
+        if j >= new.len() / NEW_FRAME {
             return Next::End;
         }
         return Next::New;
     }
-    if j >= new.len() / NEW {
+    if j >= new.len() / NEW_FRAME {
         return Next::Old;
     }
-    let old_start = lent::u32_at(old, OLD * i);
-    let new_start = lent::u32_at(new, NEW * j);
+    let old_start = lent::u32_at(old, OLD_FRAME * i);
+    let new_start = lent::u32_at(new, NEW_FRAME * j);
     if old_start < new_start {
         return Next::Old;
     }
@@ -78,7 +81,10 @@ impl FrameCursor {
     // The next frame in order of code start, from either table. Where both tables have a frame with
     // one code start, the new one is yielded alone. A table that is marked absent counts as empty.
     pub fn step(mut self, old_present: bool, old: &[u8], new_present: bool, new: &[u8]) -> FrameStep
-        ensures { λ r. ⌜ toldStep r ≡ stepSpec (ifPresent «old_present» (now (old .entry))) (ifPresent «new_present» (now (new .entry))) self ⌝ }
+        ensures { λ r. ⌜
+            toldStep r
+            ≡ stepSpec (ifPresent «old_present» (now (old .entry))) (ifPresent «new_present» (now (new .entry))) self
+            ⌝ }
     {
         let olds = lent::if_present(old_present, old);
         let news = lent::if_present(new_present, new);

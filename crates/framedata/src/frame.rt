@@ -3,18 +3,14 @@ ghost use mathlib.Core.Path.{_≡_};
 ghost use Prim.Native.Nat.{_*_, _/_, _<_};
 ghost use lib.ListN.{length};
 ghost use Rattle.framedata.specs.Records.{oldRecord, newRecord};
-ghost use Rattle.framedata.specs.Frame.{toldOld, fromNew, toldFrame, toldDecoded, toldFramed, oldFrameSpec, newFrameSpec};
+ghost use Rattle.framedata.specs.Frame.{toldOld, fromNew, toldFrame, toldDecoded, toldFramed};
+ghost use Rattle.framedata.specs.Frame.{oldFrameSpec, newFrameSpec};
 use crate::attributes::FrameType;
 use crate::attributes::attributes_of;
 use lent::Checked;
+use lent::NEW_FRAME;
+use lent::OLD_FRAME;
 use lent::Refusal;
-
-// Bytes of an old record, of a new record, and the most records of either table.
-pub const OLD: usize = 16;
-
-pub const NEW: usize = 32;
-
-pub const MOST: usize = 1048576;
 
 // The maximum number of bytes pushed on the stack.
 pub enum StackSize {
@@ -79,7 +75,7 @@ pub fn old_frame(table: &[u8], place: usize) -> Decoded
     requires { ⌜ place < length (now table) / 16 ⌝ }
     ensures { λ r. ⌜ toldDecoded r ≡ toldOld (oldRecord (now (table .entry)) place) ⌝ }
 {
-    let at = OLD * place;
+    let at = OLD_FRAME * place;
     let locals = lent::u32_at(table, at + 8);
     let params = lent::u16_at(table, at + 12);
     if locals > 1073741823 {
@@ -108,7 +104,7 @@ pub fn new_frame(table: &[u8], place: usize) -> FrameData
     requires { ⌜ place < length (now table) / 32 ⌝ }
     ensures { λ r. ⌜ toldFrame r ≡ fromNew (newRecord (now (table .entry)) place) ⌝ }
 {
-    let at = NEW * place;
+    let at = NEW_FRAME * place;
     let flags = lent::u32_at(table, at + 28);
     FrameData {
         ty: FrameType::FrameData,
@@ -135,7 +131,7 @@ pub fn old_frame_at(table: &[u8], place: usize) -> Framed
     if let Checked::Refused(why) = shaped {
         return Framed::Refused(why);
     }
-    if place >= table.len() / OLD {
+    if place >= table.len() / OLD_FRAME {
         return Framed::Nothing;
     }
     let decoded = old_frame(table, place);
@@ -153,7 +149,7 @@ pub fn new_frame_at(table: &[u8], place: usize) -> Framed
     if let Checked::Refused(why) = shaped {
         return Framed::Refused(why);
     }
-    if place >= table.len() / NEW {
+    if place >= table.len() / NEW_FRAME {
         return Framed::Nothing;
     }
     let frame = new_frame(table, place);

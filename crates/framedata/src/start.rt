@@ -2,15 +2,15 @@
 ghost use mathlib.Core.Path.{_≡_};
 ghost use mathlib.Core.Bool.{true};
 ghost use Prim.Native.Nat.{_≤_};
-ghost use Rattle.lent.specs.Paper.{toldChecked};
 ghost use Rattle.lent.specs.Table.{ifPresent};
 ghost use Rattle.lent.specs.Order.{rising, keys};
-ghost use Rattle.framedata.specs.Start.{blocks, placeSpec, faultOfBoth, startSpec, toldStarted};
+ghost use Rattle.framedata.specs.Records.{spans};
+ghost use Rattle.framedata.specs.Start.{placeSpec, startSpec, toldStarted};
 use crate::cursor::FrameCursor;
-use crate::frame::MOST;
-use crate::frame::NEW;
-use crate::frame::OLD;
+use crate::tables::checks;
 use lent::Checked;
+use lent::NEW_FRAME;
+use lent::OLD_FRAME;
 use lent::Refusal;
 
 // The cursor to iterate from, or the refusal of a table.
@@ -19,21 +19,10 @@ pub enum FrameStarted {
     Refused(Refusal),
 }
 
-// Whether both tables are right, their order too: the old one first, and in full.
-fn checks(old: &[u8], new: &[u8]) -> Checked
-    ensures { λ r. ⌜ toldChecked r ≡ faultOfBoth (now (old .entry)) (now (new .entry)) ⌝ }
-{
-    let checked = lent::old_frame_check(old);
-    if let Checked::Refused(why) = checked {
-        return Checked::Refused(why);
-    }
-    lent::new_frame_check(new)
-}
-
 // Where one table in order, of either kind, is entered for an address.
 fn place_at(table: &[u8], width: usize, address: u32) -> usize
     requires { ⌜ (8 ≤ width) × (rising (keys width (now table)) ≡ true) ⌝ }
-    ensures { λ r. ⌜ r ≡ placeSpec address (blocks width (now (table .entry))) ⌝ }
+    ensures { λ r. ⌜ r ≡ placeSpec address (spans width (now (table .entry))) ⌝ }
 {
     let after = lent::first_above(table, width, address);
     if after == 0 {
@@ -60,7 +49,10 @@ pub fn start_at(
     new_present: bool,
     new: &[u8],
 ) -> FrameStarted
-    ensures { λ r. ⌜ toldStarted r ≡ startSpec address (ifPresent «old_present» (now (old .entry))) (ifPresent «new_present» (now (new .entry))) ⌝ }
+    ensures { λ r. ⌜
+        toldStarted r
+        ≡ startSpec address (ifPresent «old_present» (now (old .entry))) (ifPresent «new_present» (now (new .entry)))
+        ⌝ }
 {
     let olds = lent::if_present(old_present, old);
     let news = lent::if_present(new_present, new);
@@ -69,7 +61,7 @@ pub fn start_at(
         return FrameStarted::Refused(why);
     }
     FrameStarted::At(FrameCursor {
-        old_index: place_at(olds, OLD, address),
-        new_index: place_at(news, NEW, address),
+        old_index: place_at(olds, OLD_FRAME, address),
+        new_index: place_at(news, NEW_FRAME, address),
     })
 }

@@ -1,4 +1,5 @@
--- The example of the program `frames`, whole: an old frame of each type, one of them passed over for an equal new one, and two new.
+-- The example of the program `frames`, whole: an old frame of each type, one of them passed over for an equal new one,
+-- and two new.
 -- Assumes nothing.
 use mathlib.Core.Path.{_≡_, refl}
 use Prim.Native.Nat.{ℕ}
@@ -9,8 +10,8 @@ use Rattle.framedata.specs.Attributes.{attributes}
 use Rattle.framedata.specs.Frame.{fromOld, fromNew}
 use Rattle.framedata.specs.Step.{lesser}
 use Rattle.framedata.specs.Merge.{merge, allFit}
-use Rattle.report.specs.Text.{glyph, digits, placesIn, lines}
-use Rattle.report.specs.Frames.{typeName, frameLine, heading, yielded, framesText}
+use Rattle.report.specs.Text.{ascii, line, glyph, digits, placesIn, lines}
+use Rattle.report.specs.Frames.{typeName, frameLine, heading, framesOrRefusal, framesText}
 
 -- 80 bytes of old frames at 100, 180, 200, 300, 400 (hex); new ones at 200 and ABCD
 abbrev pub example : List ℕ
@@ -21,20 +22,23 @@ example =
     ++ (0 ∷ 2 ∷ 0 ∷ 0 ∷ 153 ∷ 0 ∷ 0 ∷ 0 ∷ 1 ∷ 0 ∷ 0 ∷ 0 ∷ 1 ∷ 0 ∷ 255 ∷ 255 ∷ [])
     ++ (0 ∷ 3 ∷ 0 ∷ 0 ∷ 16 ∷ 0 ∷ 0 ∷ 0 ∷ 16 ∷ 0 ∷ 0 ∷ 0 ∷ 2 ∷ 0 ∷ 0 ∷ 64 ∷ [])
     ++ (0 ∷ 4 ∷ 0 ∷ 0 ∷ 255 ∷ 3 ∷ 0 ∷ 0 ∷ 255 ∷ 255 ∷ 255 ∷ 63 ∷ 255 ∷ 255 ∷ 15 ∷ 138 ∷ [])
-    ++ (0 ∷ 2 ∷ 0 ∷ 0 ∷ 16 ∷ 0 ∷ 0 ∷ 0 ∷ 0 ∷ 0 ∷ 0 ∷ 0 ∷ 0 ∷ 0 ∷ 0 ∷ 0 ∷ 64 ∷ 0 ∷ 0 ∷ 0 ∷ 18 ∷ 0 ∷ 0 ∷ 0 ∷ 0 ∷ 0 ∷ 0 ∷ 0 ∷ 7 ∷ 0 ∷ 0 ∷ 0 ∷ [])
-    ++ (205 ∷ 171 ∷ 0 ∷ 0 ∷ 120 ∷ 86 ∷ 52 ∷ 18 ∷ 9 ∷ 0 ∷ 0 ∷ 0 ∷ 255 ∷ 255 ∷ 255 ∷ 255 ∷ 0 ∷ 0 ∷ 0 ∷ 0 ∷ 239 ∷ 190 ∷ 173 ∷ 222 ∷ 31 ∷ 0 ∷ 2 ∷ 1 ∷ 4 ∷ 0 ∷ 0 ∷ 0 ∷ [])
+    ++ (0 ∷ 2 ∷ 0 ∷ 0 ∷ 16 ∷ 0 ∷ 0 ∷ 0 ∷ 0 ∷ 0 ∷ 0 ∷ 0 ∷ 0 ∷ 0 ∷ 0 ∷ 0 ∷ [])
+    ++ (64 ∷ 0 ∷ 0 ∷ 0 ∷ 18 ∷ 0 ∷ 0 ∷ 0 ∷ 0 ∷ 0 ∷ 0 ∷ 0 ∷ 7 ∷ 0 ∷ 0 ∷ 0 ∷ [])
+    ++ (205 ∷ 171 ∷ 0 ∷ 0 ∷ 120 ∷ 86 ∷ 52 ∷ 18 ∷ 9 ∷ 0 ∷ 0 ∷ 0 ∷ 255 ∷ 255 ∷ 255 ∷ 255 ∷ [])
+    ++ (0 ∷ 0 ∷ 0 ∷ 0 ∷ 239 ∷ 190 ∷ 173 ∷ 222 ∷ 31 ∷ 0 ∷ 2 ∷ 1 ∷ 4 ∷ 0 ∷ 0 ∷ 0 ∷ [])
 
 -- the lines under the heading, as crates/frames/stdout has them
 abbrev pub printed : List ℕ
 printed =
-    (48 ∷ 48 ∷ 48 ∷ 48 ∷ 48 ∷ 49 ∷ 48 ∷ 48 ∷ 32 ∷ 48 ∷ 48 ∷ 48 ∷ 48 ∷ 48 ∷ 48 ∷ 52 ∷ 48 ∷ 32 ∷ 48 ∷ 48 ∷ 48 ∷ 48 ∷ 48 ∷ 48 ∷ 48 ∷ 56 ∷ 32 ∷ 48 ∷ 48 ∷ 48 ∷ 48 ∷ 48 ∷ 48 ∷ 48 ∷ 52 ∷ 32 ∷ 48 ∷ 48 ∷ 48 ∷ 53 ∷ 32 ∷ 32 ∷ 32 ∷ 48 ∷ 48 ∷ 48 ∷ 67 ∷ 32 ∷ 32 ∷ 45 ∷ 45 ∷ 45 ∷ 45 ∷ 45 ∷ 45 ∷ 45 ∷ 45 ∷ 32 ∷ 45 ∷ 45 ∷ 45 ∷ 45 ∷ 45 ∷ 45 ∷ 45 ∷ 45 ∷ 32 ∷ 115 ∷ 116 ∷ 100 ∷ 32 ∷ 32 ∷ 32 ∷ 115 ∷ 45 ∷ 45 ∷ 45 ∷ 10 ∷ [])
-    ++ (48 ∷ 48 ∷ 48 ∷ 48 ∷ 48 ∷ 49 ∷ 56 ∷ 48 ∷ 32 ∷ 48 ∷ 48 ∷ 48 ∷ 48 ∷ 48 ∷ 48 ∷ 50 ∷ 48 ∷ 32 ∷ 48 ∷ 48 ∷ 48 ∷ 48 ∷ 48 ∷ 48 ∷ 48 ∷ 48 ∷ 32 ∷ 48 ∷ 48 ∷ 48 ∷ 48 ∷ 48 ∷ 48 ∷ 48 ∷ 48 ∷ 32 ∷ 48 ∷ 48 ∷ 48 ∷ 51 ∷ 32 ∷ 32 ∷ 32 ∷ 48 ∷ 48 ∷ 49 ∷ 48 ∷ 32 ∷ 32 ∷ 45 ∷ 45 ∷ 45 ∷ 45 ∷ 45 ∷ 45 ∷ 45 ∷ 45 ∷ 32 ∷ 45 ∷ 45 ∷ 45 ∷ 45 ∷ 45 ∷ 45 ∷ 45 ∷ 45 ∷ 32 ∷ 102 ∷ 112 ∷ 111 ∷ 32 ∷ 32 ∷ 32 ∷ 45 ∷ 45 ∷ 45 ∷ 98 ∷ 10 ∷ [])
-    ++ (48 ∷ 48 ∷ 48 ∷ 48 ∷ 48 ∷ 50 ∷ 48 ∷ 48 ∷ 32 ∷ 48 ∷ 48 ∷ 48 ∷ 48 ∷ 48 ∷ 48 ∷ 49 ∷ 48 ∷ 32 ∷ 48 ∷ 48 ∷ 48 ∷ 48 ∷ 48 ∷ 48 ∷ 48 ∷ 48 ∷ 32 ∷ 48 ∷ 48 ∷ 48 ∷ 48 ∷ 48 ∷ 48 ∷ 48 ∷ 48 ∷ 32 ∷ 48 ∷ 48 ∷ 48 ∷ 48 ∷ 32 ∷ 32 ∷ 32 ∷ 48 ∷ 48 ∷ 48 ∷ 48 ∷ 32 ∷ 32 ∷ 48 ∷ 48 ∷ 48 ∷ 48 ∷ 48 ∷ 48 ∷ 52 ∷ 48 ∷ 32 ∷ 48 ∷ 48 ∷ 48 ∷ 48 ∷ 48 ∷ 48 ∷ 49 ∷ 50 ∷ 32 ∷ 102 ∷ 100 ∷ 97 ∷ 116 ∷ 97 ∷ 32 ∷ 115 ∷ 99 ∷ 102 ∷ 45 ∷ 10 ∷ [])
-    ++ (48 ∷ 48 ∷ 48 ∷ 48 ∷ 48 ∷ 51 ∷ 48 ∷ 48 ∷ 32 ∷ 48 ∷ 48 ∷ 48 ∷ 48 ∷ 48 ∷ 48 ∷ 49 ∷ 48 ∷ 32 ∷ 48 ∷ 48 ∷ 48 ∷ 48 ∷ 48 ∷ 48 ∷ 52 ∷ 48 ∷ 32 ∷ 48 ∷ 48 ∷ 48 ∷ 48 ∷ 48 ∷ 48 ∷ 48 ∷ 56 ∷ 32 ∷ 48 ∷ 48 ∷ 48 ∷ 48 ∷ 32 ∷ 32 ∷ 32 ∷ 48 ∷ 48 ∷ 48 ∷ 48 ∷ 32 ∷ 32 ∷ 45 ∷ 45 ∷ 45 ∷ 45 ∷ 45 ∷ 45 ∷ 45 ∷ 45 ∷ 32 ∷ 45 ∷ 45 ∷ 45 ∷ 45 ∷ 45 ∷ 45 ∷ 45 ∷ 45 ∷ 32 ∷ 116 ∷ 114 ∷ 97 ∷ 112 ∷ 32 ∷ 32 ∷ 45 ∷ 45 ∷ 45 ∷ 45 ∷ 10 ∷ [])
-    ++ (48 ∷ 48 ∷ 48 ∷ 48 ∷ 48 ∷ 52 ∷ 48 ∷ 48 ∷ 32 ∷ 48 ∷ 48 ∷ 48 ∷ 48 ∷ 48 ∷ 51 ∷ 70 ∷ 70 ∷ 32 ∷ 70 ∷ 70 ∷ 70 ∷ 70 ∷ 70 ∷ 70 ∷ 70 ∷ 67 ∷ 32 ∷ 48 ∷ 48 ∷ 48 ∷ 51 ∷ 70 ∷ 70 ∷ 70 ∷ 67 ∷ 32 ∷ 48 ∷ 48 ∷ 48 ∷ 70 ∷ 32 ∷ 32 ∷ 32 ∷ 48 ∷ 48 ∷ 48 ∷ 56 ∷ 32 ∷ 32 ∷ 45 ∷ 45 ∷ 45 ∷ 45 ∷ 45 ∷ 45 ∷ 45 ∷ 45 ∷ 32 ∷ 45 ∷ 45 ∷ 45 ∷ 45 ∷ 45 ∷ 45 ∷ 45 ∷ 45 ∷ 32 ∷ 116 ∷ 115 ∷ 115 ∷ 32 ∷ 32 ∷ 32 ∷ 115 ∷ 45 ∷ 45 ∷ 45 ∷ 10 ∷ [])
-    ++ (48 ∷ 48 ∷ 48 ∷ 48 ∷ 65 ∷ 66 ∷ 67 ∷ 68 ∷ 32 ∷ 49 ∷ 50 ∷ 51 ∷ 52 ∷ 53 ∷ 54 ∷ 55 ∷ 56 ∷ 32 ∷ 48 ∷ 48 ∷ 48 ∷ 48 ∷ 48 ∷ 48 ∷ 48 ∷ 57 ∷ 32 ∷ 70 ∷ 70 ∷ 70 ∷ 70 ∷ 70 ∷ 70 ∷ 70 ∷ 70 ∷ 32 ∷ 48 ∷ 48 ∷ 49 ∷ 70 ∷ 32 ∷ 32 ∷ 32 ∷ 48 ∷ 49 ∷ 48 ∷ 50 ∷ 32 ∷ 32 ∷ 48 ∷ 48 ∷ 48 ∷ 48 ∷ 48 ∷ 48 ∷ 48 ∷ 48 ∷ 32 ∷ 68 ∷ 69 ∷ 65 ∷ 68 ∷ 66 ∷ 69 ∷ 69 ∷ 70 ∷ 32 ∷ 102 ∷ 100 ∷ 97 ∷ 116 ∷ 97 ∷ 32 ∷ 45 ∷ 45 ∷ 102 ∷ 45 ∷ 10 ∷ [])
-    ++ (102 ∷ 114 ∷ 97 ∷ 109 ∷ 101 ∷ 115 ∷ 32 ∷ 54 ∷ 10 ∷ [])
+    line (ascii "00000100 00000040 00000008 00000004 0005   000C  -------- -------- std   s---")
+    ++ line (ascii "00000180 00000020 00000000 00000000 0003   0010  -------- -------- fpo   ---b")
+    ++ line (ascii "00000200 00000010 00000000 00000000 0000   0000  00000040 00000012 fdata scf-")
+    ++ line (ascii "00000300 00000010 00000040 00000008 0000   0000  -------- -------- trap  ----")
+    ++ line (ascii "00000400 000003FF FFFFFFFC 0003FFFC 000F   0008  -------- -------- tss   s---")
+    ++ line (ascii "0000ABCD 12345678 00000009 FFFFFFFF 001F   0102  00000000 DEADBEEF fdata --f-")
+    ++ line (ascii "frames 6")
 
 pub prints : framesText example ≡ heading ++ printed
-unfolding leAt listed shapeFault attributes fromOld fromNew lesser merge allFit glyph digits placesIn lines typeName frameLine yielded framesText
+unfolding leAt listed shapeFault attributes fromOld fromNew lesser merge allFit glyph digits placesIn lines typeName
+    frameLine framesOrRefusal framesText
 prints = refl

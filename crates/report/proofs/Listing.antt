@@ -6,18 +6,20 @@ use native.Mathlib.Omega.{arith}
 use mathlib.Core.Bool.{true}
 use mathlib.Core.List.{List, [], _++_, map}
 use lib.ListN.{length, take, drop, length-map}
-use borrow.Author.Tests.{lt-ltb, le-ltb, le-leb, lt-leb}
+use borrow.Author.Tests.{le-leb, lt-leb}
 use Rattle.lent.specs.Le.{leAt}
 use Rattle.lent.specs.Paper.{Told, value, nothing, refused}
 use Rattle.framedata.specs.Records.{olds, news}
 use Rattle.framedata.specs.Frame.{Frame}
-use Rattle.framedata.specs.Step.{Pick, atStart}
-use Rattle.framedata.specs.Merge.{merge, left, frame, allFit}
+use Rattle.framedata.specs.Step.{Pick, atStart, frame}
+use Rattle.framedata.specs.Merge.{merge, left, allFit}
+use Rattle.framedata.proofs.Iteration.{from-start}
 use Rattle.framedata.specs.declared.cursor.FrameCursor.{FrameCursor}
 use Rattle.report.specs.Text.{lines, refusedText, Wrote}
-use Rattle.report.specs.Frames.{frameLine, frames, yielded, framesPrinted, framesText, Counted, howMany}
-use Rattle.report.proofs.Writing.{Left, left-first, left-last, left-more}
-use Rattle.report.proofs.Yields.{Yields, leftOver, frame-is, fit-is, from-start, few-left}
+use Rattle.report.specs.Frames.{frameLine, frames, framesOrRefusal, framesPrinted, framesText}
+use Rattle.report.specs.Frames.{FrameCount, howMany}
+use Rattle.report.proofs.Writing.{right, Left, left-first, left-last, left-more}
+use Rattle.report.proofs.Yields.{Yields, all-fit, leftOver, few-left}
 
 -- the lines of the frames that are left at a cursor, and room for them
 pub record Listing (s t before : List ℕ) (at n : ℕ) (c : FrameCursor) (bytes : List ℕ) (k : ℕ) : Type 0 where
@@ -25,7 +27,7 @@ pub record Listing (s t before : List ℕ) (at n : ℕ) (c : FrameCursor) (bytes
   pub text : Left (lines frameLine (frames s t)) before at (lines frameLine (map frame (left s t c))) bytes k
   pub small : k + 80 * length (left s t c) ≤ at + 80 * n
 
-module _ (s t before : List ℕ) (at n : ℕ) (all : Counted s t n) where
+module _ (s t before : List ℕ) (at n : ℕ) (all : FrameCount s t n) where
   pub listing-first : Listing s t before at n atStart before at
   listing-first = record {
     fit = rw (from-start s t) (all .fit);
@@ -34,7 +36,8 @@ module _ (s t before : List ℕ) (at n : ℕ) (all : Counted s t n) where
   }
 
   module _ {c : FrameCursor} {bytes : List ℕ} {k : ℕ} (w : Listing s t before at n c bytes k) where
-    pub listing-last : left s t c ≡ [] → at + 80 * n ≤ length before → Wrote (lines frameLine (frames s t)) before at k bytes × (k ≤ at + 80 * n)
+    pub listing-last : left s t c ≡ [] → at + 80 * n ≤ length before
+        → Wrote (lines frameLine (frames s t)) before at k bytes × (k ≤ at + 80 * n)
     unfolding lines
     listing-last e h = (left-last (omega (arith, w .small)) (rw e at (w .text)), omega (arith, w .small))
 
@@ -54,29 +57,29 @@ module _ (s t before : List ℕ) (at n : ℕ) (all : Counted s t n) where
       pub listing-room : at + 80 * n ≤ length before → k + 80 ≤ length bytes
       listing-room h = omega (arith, one-less, w .small, w .text .kept)
 
-      pub listing-more : {r : ℕ} {after : List ℕ} → Wrote (frameLine f) bytes k r after → r ≤ k + 80 → Listing s t before at n d after r
+      pub listing-more : {r : ℕ} {after : List ℕ} → Wrote (frameLine f) bytes k r after → r ≤ k + 80
+          → Listing s t before at n d after r
       unfolding lines
       listing-more v h =
-          let p = y .pick in
           let e : lines frameLine (map frame (left s t c)) ≡ frameLine f ++ lines frameLine (map frame (left s t d))
           = ap (λ (l : List Pick). lines frameLine (map frame l)) (y .first)
-          ∙ ap (λ (g : Frame). frameLine g ++ lines frameLine (map frame (left s t d))) (frame-is p f (y .yields)) in
+          ∙ ap (λ (g : Frame). frameLine g ++ lines frameLine (map frame (left s t d))) (y .is) in
           record {
-            fit = sym (fit-is p f (left s t d) (y .yields)) ∙ ap allFit (sym (y .first)) ∙ w .fit;
+            fit = sym (all-fit y) ∙ w .fit;
             text = left-more (frameLine f) (lines frameLine (map frame (left s t d))) (w .text) e v;
             small = omega (arith, one-less, w .small);
           }
 
 -- what the count of the frames says of them
-module _ (s t : List ℕ) {n : ℕ} (all : Counted s t n) where
+module _ (s t : List ℕ) {n : ℕ} (all : FrameCount s t n) where
   pub length-frames : length (frames s t) ≡ n
   length-frames = length-map (merge (olds s) (news t)) frame ∙ sym (all .number)
 
   pub few-frames : n ≤ length s / 16 + length t / 32
   few-frames = omega (arith, all .number, ap length (from-start s t), few-left s t)
 
-  pub all-frames : yielded s t ≡ value (frames s t)
-  unfolding yielded
+  pub all-frames : framesOrRefusal s t ≡ value (frames s t)
+  unfolding framesOrRefusal
   all-frames = rw (all .good, all .fit)
 
 -- a refusal instead of the count is the answer itself
@@ -85,22 +88,13 @@ refused-frames (value l) m e = cc
 refused-frames nothing m e = cc
 refused-frames (refused n) m e = cc
 
--- the input by its lengths
-module _ (input : List ℕ) where
-  pub short-frames : length input < 4 → framesText input ≡ refusedText 1
+-- an input of a right length, by the length of its old table
+module _ (input : List ℕ) (h : 4 ≤ length input) (l : length input ≤ 65536) where
+  pub overlong-frames : length input - 4 < leAt 4 input 0 → framesText input ≡ refusedText 1
   unfolding framesText
-  short-frames h = rw (lt-ltb (length input) 4 h)
+  overlong-frames o = right 4 input _ h l ∙ rw (lt-leb (leAt 4 input 0) (length input - 4) o)
 
-  pub long-frames : 65536 < length input → framesText input ≡ refusedText 2
+  pub whole-frames : leAt 4 input 0 ≤ length input - 4 → framesText input
+      ≡ framesPrinted (framesOrRefusal (take (leAt 4 input 0) (drop 4 input)) (drop (4 + leAt 4 input 0) input))
   unfolding framesText
-  long-frames h = rw (le-ltb (length input) 4 (omega arith), lt-leb (length input) 65536 h)
-
-  module _ (h : 4 ≤ length input) (l : length input ≤ 65536) where
-    pub overlong-frames : length input - 4 < leAt 4 input 0 → framesText input ≡ refusedText 1
-    unfolding framesText
-    overlong-frames o = rw (le-ltb (length input) 4 h, le-leb (length input) 65536 l, lt-leb (leAt 4 input 0) (length input - 4) o)
-
-    pub whole-frames : leAt 4 input 0 ≤ length input - 4
-        → framesText input ≡ framesPrinted (yielded (take (leAt 4 input 0) (drop 4 input)) (drop (4 + leAt 4 input 0) input))
-    unfolding framesText
-    whole-frames o = rw (le-ltb (length input) 4 h, le-leb (length input) 65536 l, le-leb (leAt 4 input 0) (length input - 4) o)
+  whole-frames o = right 4 input _ h l ∙ rw (le-leb (leAt 4 input 0) (length input - 4) o)

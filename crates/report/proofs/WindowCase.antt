@@ -9,8 +9,8 @@ use Rattle.lent.specs.Table.{listed, shapeFault}
 use Rattle.lent.specs.Order.{risingAfter, rising, tableFault}
 use Rattle.omap.specs.Records.{records}
 use Rattle.omap.specs.Window.{nextOf, pieceOf, pieces}
-use Rattle.omap.specs.Output.{shown, fits, allFit, roomFor, windowSpec}
-use Rattle.report.specs.Text.{glyph, digits, placesIn, lines}
+use Rattle.omap.specs.Output.{besideStart, fits, allFit, roomFor, windowSpec}
+use Rattle.report.specs.Text.{ascii, line, glyph, digits, placesIn, lines}
 use Rattle.report.specs.Window.{tableText, windowText}
 
 -- 1000→5000, 1100→0, 1200→4000, 1300→5080
@@ -25,14 +25,14 @@ table =
 abbrev pub example : List ℕ
 example = (0 ∷ 8 ∷ 0 ∷ 0 ∷ 0 ∷ 20 ∷ 0 ∷ 0 ∷ []) ++ table
 
--- 00005000 00005100, 00004000 00004100, 00005080 00005180, pieces 3
 abbrev pub printed : List ℕ
 printed =
-    (48 ∷ 48 ∷ 48 ∷ 48 ∷ 53 ∷ 48 ∷ 48 ∷ 48 ∷ 32 ∷ 48 ∷ 48 ∷ 48 ∷ 48 ∷ 53 ∷ 49 ∷ 48 ∷ 48 ∷ 10 ∷ [])
-    ++ (48 ∷ 48 ∷ 48 ∷ 48 ∷ 52 ∷ 48 ∷ 48 ∷ 48 ∷ 32 ∷ 48 ∷ 48 ∷ 48 ∷ 48 ∷ 52 ∷ 49 ∷ 48 ∷ 48 ∷ 10 ∷ [])
-    ++ (48 ∷ 48 ∷ 48 ∷ 48 ∷ 53 ∷ 48 ∷ 56 ∷ 48 ∷ 32 ∷ 48 ∷ 48 ∷ 48 ∷ 48 ∷ 53 ∷ 49 ∷ 56 ∷ 48 ∷ 10 ∷ [])
-    ++ (112 ∷ 105 ∷ 101 ∷ 99 ∷ 101 ∷ 115 ∷ 32 ∷ 51 ∷ 10 ∷ [])
+    line (ascii "00005000 00005100")
+    ++ line (ascii "00004000 00004100")
+    ++ line (ascii "00005080 00005180")
+    ++ line (ascii "pieces 3")
 
 pub prints : windowText example ≡ printed
-unfolding leAt listed shapeFault risingAfter rising tableFault records nextOf pieceOf put pieces shown fits allFit roomFor windowSpec glyph digits placesIn lines tableText windowText
+unfolding leAt listed shapeFault risingAfter rising tableFault records nextOf pieceOf put pieces besideStart fits allFit
+    roomFor windowSpec glyph digits placesIn lines tableText windowText
 prints = refl

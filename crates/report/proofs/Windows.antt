@@ -1,4 +1,4 @@
--- The text of a window: its length, its lines from the pairs that the window's call writes; and that refusal 5 is never met.
+-- The text of a window: its length, and its lines from the pairs that the window's call writes. Refusal 5 is never met.
 -- Assumes nothing.
 use mathlib.Core.Path.{_≡_, refl, ap, _∙_}
 use Prim.Native.Nat.{ℕ, suc, _+_, _*_, _/_, _≤_, _<_}
@@ -11,16 +11,16 @@ use lib.Seq.{drop-cons, take-at, length-take-le}
 use lib.Dec.{leb}
 use Rattle.lent.specs.Words.{put}
 use Rattle.lent.specs.Order.{omapFault}
-use Rattle.lent.specs.Le.{leAt}
-use borrow.Author.Tests.{lt-ltb, le-ltb, le-leb, lt-leb}
+use borrow.Author.Tests.{le-leb}
 use Rattle.lent.proofs.Place.{length-listed}
 use Rattle.omap.specs.Records.{Entry, entryAt, records}
 use Rattle.omap.specs.Window.{nextOf, pieceOf, pieces, windowPieces}
 use Rattle.omap.specs.declared.walk.Piece.{Piece}
-use Rattle.omap.specs.Output.{shown, allFit, flat, Window, counted, refusedAs, refusedFor, roomFor, unlessFault, windowSpec, windowOut}
+use Rattle.omap.specs.Output.{besideStart, allFit, flat, Window, counted, refusedAs, refusedFor, roomFor, unlessFault}
+use Rattle.omap.specs.Output.{windowSpec, windowOut}
 use Rattle.omap.proofs.Outputs.{length-flat}
-use Rattle.report.specs.Text.{digits, lines, numbered, refusedText}
-use Rattle.report.specs.Window.{pairLine, pieceLine, pairLines, piecesWord, windowPrinted, tableText, windowText}
+use Rattle.report.specs.Text.{ascii, digits, lines, numbered}
+use Rattle.report.specs.Window.{pairLine, pieceLine, pairLines, windowPrinted, tableText}
 use Rattle.report.proofs.Writing.{length-digits}
 
 pub length-pair : (x y : ℕ) → length (pairLine x y) ≡ 18
@@ -37,20 +37,23 @@ pairs-of (p ∷ l) = ap (λ (t : List ℕ). pieceLine p ++ t) (pairs-of l)
 pub length-lines : (l : List Piece) → length (lines pieceLine l) ≡ 18 * length l
 unfolding lines
 length-lines [] = refl
-length-lines (p ∷ l) = length-append (pieceLine p) (lines pieceLine l) ∙ omega (arith, length-pair (p .to) (shown p), length-lines l)
+length-lines (p ∷ l) =
+    length-append (pieceLine p) (lines pieceLine l) ∙ omega (arith, length-pair (p .to) (besideStart p), length-lines l)
 
 pub length-pairs : (l : List ℕ) → length (pairLines l) ≡ 18 * (length l / 2)
 unfolding pairLines
 length-pairs [] = refl
 length-pairs (x ∷ []) = refl
-length-pairs (x ∷ (y ∷ l)) = length-append (pairLine x y) (pairLines l) ∙ omega (arith, length-pair x y, length-pairs l)
+length-pairs (x ∷ (y ∷ l)) =
+    length-append (pairLine x y) (pairLines l) ∙ omega (arith, length-pair x y, length-pairs l)
 
 pub taken-pairs : (l : List ℕ) (n : ℕ) → 2 * n ≤ length l → length (pairLines (take (2 * n) l)) ≡ 18 * n
 taken-pairs l n h = length-pairs (take (2 * n) l) ∙ omega (arith, length-take-le (2 * n) l h)
 
 -- one pair less to write
 pub pair-less : (l : List ℕ) (i : ℕ) → 2 * i + 1 < length l
-    → pairLines (drop (2 * i) l) ≡ pairLine (getD l (2 * i) 0) (getD l (2 * i + 1) 0) ++ pairLines (drop (2 * (i + 1)) l)
+    → pairLines (drop (2 * i) l)
+    ≡ pairLine (getD l (2 * i) 0) (getD l (2 * i + 1) 0) ++ pairLines (drop (2 * (i + 1)) l)
 unfolding pairLines
 pair-less l i h =
     let e : 2 * (i + 1) ≡ suc (suc (2 * i)) = omega arith in
@@ -88,7 +91,8 @@ count-fault : (o : Option ℕ) (w : Window) (n : ℕ) → counted n ≡ unlessFa
 count-fault none w n e = e
 count-fault (some k) w n e = cc
 
-never-for : (o : Option ℕ) (fits : Bool) (n k : ℕ) → unlessFault o (cond fits (counted n) (refusedAs 4)) ≡ refusedFor 5 k → ⊥
+never-for : (o : Option ℕ) (fits : Bool) (n k : ℕ)
+    → unlessFault o (cond fits (counted n) (refusedAs 4)) ≡ refusedFor 5 k → ⊥
 never-for none true n k e = let z : _≡_ {A = ℕ} 0 1 = cc in omega arith
 never-for none false n k e = let z : _≡_ {A = ℕ} 0 1 = cc in omega arith
 never-for (some m) fits n k e = let z : _≡_ {A = ℕ} 0 1 = cc in omega arith
@@ -121,7 +125,8 @@ module _ (s : List ℕ) (a b : ℕ) where
         never-for (omapFault s) (allFit l) (length l) k (rw (le-leb (length l) room (omega (arith, few))) at e)
 
     -- so the text follows from the answer with that room
-    pub text-is : (w : Window) → w ≡ windowSpec true s a b room → windowPrinted w (windowPieces true s a b) ≡ tableText a b s
+    pub text-is : (w : Window) → w ≡ windowSpec true s a b room
+        → windowPrinted w (windowPieces true s a b) ≡ tableText a b s
     unfolding tableText
     text-is w e = ap (λ (v : Window). windowPrinted v (windowPieces true s a b)) (e ∙ never-5)
 
@@ -137,22 +142,8 @@ module _ (s : List ℕ) (a b : ℕ) where
   -- the text of the pairs that the call wrote, and of their number
   pub pieces-text : (out last : List ℕ) (n : ℕ) → length s / 8 ≤ length out / 2
       → counted n ≡ windowSpec true s a b (length out / 2) → last ≡ windowOut true s a b out
-      → pairLines (take (2 * n) last) ++ numbered piecesWord n ≡ tableText a b s
+      → pairLines (take (2 * n) last) ++ numbered (ascii "pieces ") n ≡ tableText a b s
   pieces-text out last n room e w =
       let l = windowPieces true s a b in
       let f : take (2 * n) last ≡ flat l = ap (λ (x : List ℕ). take (2 * n) x) w ∙ written out n e in
       rw (f, pairs-of l) (text-is (length out / 2) room (counted n) e)
-
--- the input by its length
-module _ (input : List ℕ) where
-  pub short : length input < 8 → windowText input ≡ refusedText 1
-  unfolding windowText
-  short h = rw (lt-ltb (length input) 8 h)
-
-  pub long : 65536 < length input → windowText input ≡ refusedText 2
-  unfolding windowText
-  long h = rw (le-ltb (length input) 8 (omega arith), lt-leb (length input) 65536 h)
-
-  pub whole : 8 ≤ length input → length input ≤ 65536 → windowText input ≡ tableText (leAt 4 input 0) (leAt 4 input 4) (drop 8 input)
-  unfolding windowText
-  whole h l = rw (le-ltb (length input) 8 h, le-leb (length input) 65536 l)

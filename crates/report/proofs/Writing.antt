@@ -15,30 +15,35 @@ use Rattle.lent.specs.declared.Refusal.{Refusal}
 use Rattle.lent.specs.declared.Refusal.the-variants.{Length, Count, Order}
 use Rattle.lent.proofs.Logic.{lt-or-le}
 use Rattle.omap.proofs.Filling.{start}
-use Rattle.report.specs.Text.{glyph, digits, placesIn, places, Wrote, Printed}
+use Rattle.report.specs.Text.{glyph, digits, placesIn, places, refusedText, inputText, Wrote, Printed}
 
 -- two texts, one after the other
-pub sets-append : (out : List ℕ) (at : ℕ) (vs ws : List ℕ) → sets out at (vs ++ ws) ≡ sets (sets out at vs) (at + length vs) ws
+pub sets-append : (out : List ℕ) (at : ℕ) (vs ws : List ℕ)
+    → sets out at (vs ++ ws) ≡ sets (sets out at vs) (at + length vs) ws
 sets-append out at [] ws = rw (add-zero at)
 sets-append out at (v ∷ vs) ws =
     let e : suc at + length vs ≡ at + suc (length vs) = omega arith in
     sets-append (set out at v) (suc at) vs ws ∙ ap (λ (k : ℕ). sets (sets (set out at v) (suc at) vs) k ws) e
 
 -- the last byte of a text may be written first
-pub sets-last : (out : List ℕ) (at : ℕ) (vs : List ℕ) (v : ℕ) → sets (set out (at + length vs) v) at vs ≡ sets out at (vs ++ (v ∷ []))
+pub sets-last : (out : List ℕ) (at : ℕ) (vs : List ℕ) (v : ℕ)
+    → sets (set out (at + length vs) v) at vs ≡ sets out at (vs ++ (v ∷ []))
 sets-last out at [] v = rw (add-zero at)
 sets-last out at (a ∷ vs) v =
     let e : at + suc (length vs) ≡ suc at + length vs = omega arith in
     let d : at + suc (length vs) ≢ at = omega arith in
-    ap (λ (l : List ℕ). sets l (suc at) vs) (set-comm out (at + suc (length vs)) at v a d ∙ ap (λ (k : ℕ). set (set out at a) k v) e)
+    ap (λ (l : List ℕ). sets l (suc at) vs)
+    (set-comm out (at + suc (length vs)) at v a d ∙ ap (λ (k : ℕ). set (set out at a) k v) e)
     ∙ sets-last (set out at a) (suc at) vs v
 
 -- a text, and then another
-pub wrote-both : {a b before middle after : List ℕ} {at r q : ℕ} → Wrote a before at r middle → Wrote b middle r q after → Wrote (a ++ b) before at q after
+pub wrote-both : {a b before middle after : List ℕ} {at r q : ℕ} → Wrote a before at r middle
+    → Wrote b middle r q after → Wrote (a ++ b) before at q after
 wrote-both {a} {b} {before} {middle} {after} {at} {r} {q} first second = record {
   place = omega (arith, length-append a b);
   bytes = second .bytes ∙ rw (first .bytes, first .place) (sym (sets-append before at a b));
-  room = omega (arith, first .place, second .room, ap length (first .bytes) ∙ length-sets before at a, length-append a b);
+  room = let l = ap length (first .bytes) ∙ length-sets before at a in
+      omega (arith, first .place, second .room, length-append a b);
 }
 
 -- A loop that writes a text: what is left of it, written onto the bytes as they are, gives the bytes as they will be.
@@ -50,11 +55,14 @@ pub record Left (text before : List ℕ) (at : ℕ) (rest bytes : List ℕ) (k :
 pub left-first : (text before : List ℕ) (at : ℕ) → Left text before at text before at
 left-first text before at = record { kept = refl; places-left = refl; as-will-be = refl }
 
-pub left-last : {text before bytes : List ℕ} {at k : ℕ} → k ≤ length before → Left text before at [] bytes k → Wrote text before at k bytes
-left-last {k = k} h w = record { place = sym (add-zero k) ∙ w .places-left; bytes = w .as-will-be; room = omega (arith, w .places-left) }
+pub left-last : {text before bytes : List ℕ} {at k : ℕ} → k ≤ length before → Left text before at [] bytes k
+    → Wrote text before at k bytes
+left-last {k = k} h w =
+    record { place = sym (add-zero k) ∙ w .places-left; bytes = w .as-will-be; room = omega (arith, w .places-left) }
 
 -- the next part of the text, and what is left after it
-module _ {text before whole bytes : List ℕ} {at k : ℕ} (a rest : List ℕ) (w : Left text before at whole bytes k) (e : whole ≡ a ++ rest) where
+module _ {text before whole bytes : List ℕ} {at k : ℕ} (a rest : List ℕ) (w : Left text before at whole bytes k)
+    (e : whole ≡ a ++ rest) where
   both-lengths : length whole ≡ length a + length rest
   both-lengths = ap length e ∙ length-append a rest
 
@@ -65,11 +73,13 @@ module _ {text before whole bytes : List ℕ} {at k : ℕ} (a rest : List ℕ) (
   left-more v = record {
     kept = ap length (v .bytes) ∙ length-sets bytes k a ∙ w .kept;
     places-left = omega (arith, both-lengths, v .place, w .places-left);
-    as-will-be = rw (v .bytes, v .place) (sym (sets-append bytes k a rest) ∙ ap (λ (l : List ℕ). sets bytes k l) (sym e) ∙ w .as-will-be);
+    as-will-be = rw (v .bytes, v .place)
+        (sym (sets-append bytes k a rest) ∙ ap (λ (l : List ℕ). sets bytes k l) (sym e) ∙ w .as-will-be);
   }
 
 -- a whole text, written from the front on
-pub printed : {text before after : List ℕ} {r : ℕ} (room : ℕ) → room ≤ length before → Wrote text before 0 r after → Printed room text before r after
+pub printed : {text before after : List ℕ} {r : ℕ} (room : ℕ) → room ≤ length before → Wrote text before 0 r after
+    → Printed room text before r after
 printed {text} {before} {after} {r} room h w =
     let enough : length text ≤ length before = omega (arith, w .room) in
     record {
@@ -78,15 +88,29 @@ printed {text} {before} {after} {r} room h w =
       within = omega (arith, w .place, ap length (w .bytes) ∙ length-sets before 0 text);
     }
 
+-- the text for an input by its length
+module _ (least : ℕ) (input text : List ℕ) where
+  pub short : length input < least → inputText least input text ≡ refusedText 1
+  short h = rw (lt-ltb (length input) least h)
+
+  module _ (h : least ≤ length input) where
+    pub long : 65536 < length input → inputText least input text ≡ refusedText 2
+    long l = rw (le-ltb (length input) least h, lt-leb (length input) 65536 l)
+
+    pub right : length input ≤ 65536 → inputText least input text ≡ text
+    right l = rw (le-ltb (length input) least h, le-leb (length input) 65536 l)
+
 -- too little room
 pub not-printed : (room : ℕ) (text before : List ℕ) → length before < room → Printed room text before 0 before
 not-printed room text before h =
-    record { answer = rw (lt-leb room (length before) h); bytes = rw (lt-leb room (length before) h); within = omega arith }
+    let e = lt-leb room (length before) h in
+    record { answer = rw e; bytes = rw e; within = omega arith }
 
 pub length-digits : (b w n : ℕ) → length (digits b w n) ≡ w
 unfolding digits
 length-digits b zero n = refl
-length-digits b (suc w) n = length-append (digits b w (n / b)) (glyph (n % b) ∷ []) ∙ omega (arith, length-digits b w (n / b))
+length-digits b (suc w) n =
+    length-append (digits b w (n / b)) (glyph (n % b) ∷ []) ∙ omega (arith, length-digits b w (n / b))
 
 -- one digit less to write
 pub digit-less : (b k n : ℕ) (out : List ℕ) (at : ℕ) → 0 < k
@@ -130,7 +154,8 @@ places-one (suc n) h = rw (lt-ltb (suc n) 10 h)
 pub places-more : (n : ℕ) → 10 ≤ n → places n ≡ suc (places (n / 10))
 unfolding placesIn
 places-more zero h = absurd (omega arith)
-places-more (suc n) h = rw (le-ltb (suc n) 10 h) (ap suc (same-places n (suc n / 10) (suc n / 10) (omega arith) (omega arith)))
+places-more (suc n) h =
+    rw (le-ltb (suc n) 10 h) (ap suc (same-places n (suc n / 10) (suc n / 10) (omega arith) (omega arith)))
 
 -- a number below a power of ten has at most as many digits
 pub places-most : (w n : ℕ) → n < 10 ^ suc w → places n ≤ suc w

@@ -1,7 +1,7 @@
 -- What a step says of the frames that are left at its cursor, and how many an iteration yields.
 -- Assumes nothing.
 use mathlib.Core.Path.{_≡_, refl, sym, ap, _∙_}
-use Prim.Native.Nat.{ℕ, suc, _+_, _/_, _≤_}
+use Prim.Native.Nat.{ℕ, _+_, _/_, _≤_}
 use native.Mathlib.Nat.{zero-add, add-zero}
 use native.Mathlib.Omega.{arith}
 use mathlib.Core.Bool.{Bool, true, false, cond}
@@ -9,16 +9,17 @@ use mathlib.Core.List.{List, [], _∷_, map}
 use mathlib.Core.Option.{Option, none, some}
 use lib.ListN.{length, length-map}
 use Rattle.lent.specs.Paper.{Told, value, nothing, refused, unless}
-use Rattle.lent.proofs.Place.{listed-all, length-listed}
+use Rattle.lent.proofs.Place.{length-listed}
 use Rattle.framedata.specs.Records.{OldFrame, NewFrame, oldRecord, newRecord, olds, news}
-use Rattle.framedata.specs.Frame.{Frame, fromOld, fits}
+use Rattle.framedata.specs.Frame.{Frame}
 use Rattle.framedata.specs.Tables.{shapeOfBoth}
-use Rattle.framedata.specs.Step.{Pick, old, new, both, atStart, Stepped, frameOf, past, handed, unlessRefused, stepSpec}
-use Rattle.framedata.specs.Merge.{followed, merge, oldsFrom, left, frame, allFit}
+use Rattle.framedata.specs.Step.{Pick, atStart, Stepped, frame, pickFits, frameOf, past, handed, stepSpec}
+use Rattle.framedata.specs.Step.{unlessRefused}
+use Rattle.framedata.specs.Merge.{merge, left, allFit}
 use Rattle.framedata.specs.declared.cursor.FrameCursor.{FrameCursor}
-use Rattle.framedata.proofs.Merging.{by-lesser}
-use Rattle.framedata.proofs.Iteration.{unrolled, here, left-step}
-use Rattle.report.specs.Frames.{yielded, Counted, howMany}
+use Rattle.framedata.proofs.Merging.{by-merge}
+use Rattle.framedata.proofs.Iteration.{unrolled, here, left-step, from-start}
+use Rattle.report.specs.Frames.{framesOrRefusal, FrameCount, howMany}
 
 -- an answer hands on a frame only if it is that frame
 handed-frame : (c next : FrameCursor) (a : Told Frame) (f : Frame) (d : FrameCursor)
@@ -27,71 +28,36 @@ handed-frame c next (value g) f d e = (ap (λ (r : Stepped). r .answer) e, ap (�
 handed-frame c next nothing f d e = let z : nothing ≡ value f = ap (λ (r : Stepped). r .answer) e in (z, cc)
 handed-frame c next (refused n) f d e = let z : refused n ≡ value f = ap (λ (r : Stepped). r .answer) e in (z, cc)
 
--- an old frame that is yielded fits
-old-fits : (b : Bool) (g f : Frame) → cond b (value g) (refused 4) ≡ value f → (b ≡ true) × (g ≡ f)
-old-fits true g f e = (refl, cc)
-old-fits false g f e = (cc, cc)
+handed-answer : (c next : FrameCursor) (a : Told Frame) → handed c next a .answer ≡ a
+handed-answer c next (value f) = refl
+handed-answer c next nothing = refl
+handed-answer c next (refused n) = refl
+
+-- a frame, or refusal 4: what each answer says of the test between them
+said-frame : (b : Bool) (g f : Frame) → cond b (value g) (refused 4) ≡ value f → (b ≡ true) × (g ≡ f)
+said-frame true g f e = (refl, cc)
+said-frame false g f e = (cc, cc)
+
+said-refusal : (b : Bool) (g : Frame) (m : ℕ) → cond b (value g) (refused 4) ≡ refused m → (b ≡ false) × (m ≡ 4)
+said-refusal true g m e = (cc, cc)
+said-refusal false g m e = (refl, cc)
+
+never-nothing : (b : Bool) (g : Frame) → cond b (value g) (refused 4) ≡ nothing → ⊥
+never-nothing true g e = let z : _≡_ {A = ℕ} 0 1 = cc in omega arith
+never-nothing false g e = let z : _≡_ {A = ℕ} 0 1 = cc in omega arith
 
 -- a step that yields a frame: no table is refused, and the frame is the first of those that are left
 pub record Yields (s t : List ℕ) (c next : FrameCursor) (f : Frame) : Type 0 where
   pub pick : Pick
   pub good : shapeOfBoth s t ≡ none
   pub first : left s t c ≡ pick ∷ left s t next
-  pub yields : frameOf pick ≡ value f
+  pub fits : pickFits pick ≡ true
+  pub is : frame pick ≡ f
 
-pub frame-is : (p : Pick) (f : Frame) → frameOf p ≡ value f → frame p ≡ f
-frame-is (old o) f e = old-fits (fits o) (fromOld o) f e .1
-frame-is (new n) f e = cc
-frame-is (both n o) f e = cc
-
-pub fit-is : (p : Pick) (f : Frame) (l : List Pick) → frameOf p ≡ value f → allFit (p ∷ l) ≡ allFit l
+pub all-fit : {s t : List ℕ} {c next : FrameCursor} {f : Frame} → Yields s t c next f
+    → allFit (left s t c) ≡ allFit (left s t next)
 unfolding allFit
-fit-is (old o) f l e = rw (old-fits (fits o) (fromOld o) f e .0)
-fit-is (new n) f l e = refl
-fit-is (both n o) f l e = refl
-
-handed-answer : (c next : FrameCursor) (a : Told Frame) → handed c next a .answer ≡ a
-handed-answer c next (value f) = refl
-handed-answer c next nothing = refl
-handed-answer c next (refused n) = refl
-
-old-told : (b : Bool) (g : Frame) → cond b (value g) (refused 4) ≡ nothing → ⊥
-old-told true g e = let z : _≡_ {A = ℕ} 0 1 = cc in omega arith
-old-told false g e = let z : _≡_ {A = ℕ} 0 1 = cc in omega arith
-
-never-nothing : (p : Pick) → frameOf p ≡ nothing → ⊥
-never-nothing (old o) e = old-told (fits o) (fromOld o) e
-never-nothing (new n) e = let z : _≡_ {A = ℕ} 0 1 = cc in omega arith
-never-nothing (both n o) e = let z : _≡_ {A = ℕ} 0 1 = cc in omega arith
-
-old-large : (b : Bool) (g : Frame) (m : ℕ) → cond b (value g) (refused 4) ≡ refused m → (m ≡ 4) × (b ≡ false)
-old-large true g m e = (cc, cc)
-old-large false g m e = (cc, refl)
-
--- only a frame that is too large is refused
-refused-is : (p : Pick) (m : ℕ) (l : List Pick) → frameOf p ≡ refused m → (m ≡ 4) × (allFit (p ∷ l) ≡ false)
-unfolding allFit
-refused-is (old o) m l e = let h = old-large (fits o) (fromOld o) m e in (h .0, rw (h .1))
-refused-is (new n) m l e = (cc, cc)
-refused-is (both n o) m l e = (cc, cc)
-
-merge-few : (os : List OldFrame) (ns : List NewFrame) → length (merge os ns) ≤ length os + length ns
-unfolding merge
-merge-few [] [] = omega arith
-merge-few [] (n ∷ ns) = omega (arith, merge-few [] ns)
-merge-few (o ∷ os) [] = omega (arith, merge-few os [])
-merge-few (o ∷ os) (n ∷ ns) =
-    by-lesser
-    (λ (p : Pick). length (followed p (merge os (n ∷ ns)) (merge (o ∷ os) ns) (merge os ns)) ≤ length (o ∷ os) + length (n ∷ ns)) o n
-    (λ e. omega (arith, merge-few os (n ∷ ns)))
-    (λ e. omega (arith, merge-few (o ∷ os) ns))
-    (λ e. omega (arith, merge-few os ns))
-
-counts : (fault : Option ℕ) (b : Bool) (l : List Pick)
-    → unless fault (cond b (value (0 + length l)) (refused 4)) ≡ howMany (unless fault (cond b (value (map frame l)) (refused 4)))
-counts none true l = ap value (zero-add (length l) ∙ sym (length-map l frame))
-counts none false l = refl
-counts (some n) b l = refl
+all-fit y = rw (y .first, y .fits)
 
 -- how many frames are left at a cursor, beside k before it; or the refusal
 abbrev pub leftOver : List ℕ → List ℕ → FrameCursor → ℕ → Told ℕ
@@ -99,8 +65,9 @@ leftOver s t c k = unless (shapeOfBoth s t) (cond (allFit (left s t c)) (value (
 
 -- what a step says, from what it found of the tables and of what is next
 module _ (s t : List ℕ) (c : FrameCursor) where
-  by-frame : (fault : Option ℕ) (x : Option Pick) (f : Frame) (d : FrameCursor) → shapeOfBoth s t ≡ fault → left s t c ≡ unrolled s t c x
-      → unlessRefused c fault x ≡ record { answer = value f; cursor = d } → Yields s t c d f
+  by-frame : (fault : Option ℕ) (x : Option Pick) (f : Frame) (d : FrameCursor) → shapeOfBoth s t ≡ fault
+      → left s t c ≡ unrolled s t c x → unlessRefused c fault x ≡ record { answer = value f; cursor = d }
+      → Yields s t c d f
   by-frame (some n) x f d g l e =
       let a : refused n ≡ value f = ap (λ (r : Stepped). r .answer) e in
       let z : _≡_ {A = ℕ} 0 1 = cc in
@@ -111,49 +78,74 @@ module _ (s t : List ℕ) (c : FrameCursor) where
       absurd (omega arith)
   by-frame none (some p) f d g l e =
       let h = handed-frame c (past c p) (frameOf p) f d e in
-      record { pick = p; good = g; first = rw (h .1) at l; yields = h .0 }
+      let i = said-frame (pickFits p) (frame p) f (h .0) in
+      record { pick = p; good = g; first = rw (h .1) at l; fits = i .0; is = i .1 }
 
-  pub by-step : (f : Frame) (d : FrameCursor) → record { answer = value f; cursor = d } ≡ stepSpec s t c → Yields s t c d f
+  pub by-step : (f : Frame) (d : FrameCursor) → record { answer = value f; cursor = d } ≡ stepSpec s t c
+      → Yields s t c d f
   unfolding stepSpec
   by-step f d e = by-frame (shapeOfBoth s t) (here s t c) f d refl (left-step s t c) (sym e)
 
   -- the end: no table is refused, and nothing is left
-  by-end : (fault : Option ℕ) (x : Option Pick) → left s t c ≡ unrolled s t c x → unlessRefused c fault x .answer ≡ nothing → (fault ≡ none) × (left s t c ≡ [])
+  by-end : (fault : Option ℕ) (x : Option Pick) → left s t c ≡ unrolled s t c x
+      → unlessRefused c fault x .answer ≡ nothing → (fault ≡ none) × (left s t c ≡ [])
   by-end (some n) x l e = (cc, cc)
   by-end none none l e = (refl, l)
-  by-end none (some p) l e = absurd (never-nothing p (sym (handed-answer c (past c p) (frameOf p)) ∙ e))
+  by-end none (some p) l e =
+      absurd (never-nothing (pickFits p) (frame p) (sym (handed-answer c (past c p) (frameOf p)) ∙ e))
 
-  pub at-end : (d : FrameCursor) → record { answer = nothing; cursor = d } ≡ stepSpec s t c → (shapeOfBoth s t ≡ none) × (left s t c ≡ [])
+  pub at-end : (d : FrameCursor) → record { answer = nothing; cursor = d } ≡ stepSpec s t c
+      → (shapeOfBoth s t ≡ none) × (left s t c ≡ [])
   unfolding stepSpec
   at-end d e = by-end (shapeOfBoth s t) (here s t c) (left-step s t c) (ap (λ (r : Stepped). r .answer) (sym e))
 
-  by-refusal : (fault : Option ℕ) (x : Option Pick) (m k : ℕ) → left s t c ≡ unrolled s t c x → unlessRefused c fault x .answer ≡ refused m
+  by-refusal : (fault : Option ℕ) (x : Option Pick) (m k : ℕ) → left s t c ≡ unrolled s t c x
+      → unlessRefused c fault x .answer ≡ refused m
       → unless fault (cond (allFit (left s t c)) (value (k + length (left s t c))) (refused 4)) ≡ refused m
+  unfolding allFit
   by-refusal (some n) x m k l e = cc
   by-refusal none none m k l e = cc
   by-refusal none (some p) m k l e =
-      let r = refused-is p m (left s t (past c p)) (sym (handed-answer c (past c p) (frameOf p)) ∙ e) in
-      let f : allFit (left s t c) ≡ false = ap allFit l ∙ r .1 in
-      rw (f, r .0)
+      let r = said-refusal (pickFits p) (frame p) m (sym (handed-answer c (past c p) (frameOf p)) ∙ e) in
+      rw (l, r .0, r .1)
 
   module _ (k : ℕ) where
     -- a frame more, and one less that is left
     pub one-more : {d : FrameCursor} {f : Frame} → Yields s t c d f → leftOver s t c k ≡ leftOver s t d (k + 1)
     one-more {d} {f} y =
-        let e : k + suc (length (left s t d)) ≡ (k + 1) + length (left s t d) = omega arith in
-        rw (y .first, fit-is (y .pick) f (left s t d) (y .yields), e)
+        let e : k + length (left s t c) ≡ (k + 1) + length (left s t d) = omega (arith, ap length (y .first)) in
+        rw (all-fit y, e)
 
-    pub all-told : (d : FrameCursor) → record { answer = nothing; cursor = d } ≡ stepSpec s t c → leftOver s t c k ≡ value k
+    pub all-told : (d : FrameCursor) → record { answer = nothing; cursor = d } ≡ stepSpec s t c
+        → leftOver s t c k ≡ value k
     unfolding allFit
     all-told d e = let g = at-end d e in rw (g .0, g .1, add-zero k)
 
-    pub refusal-told : (m : ℕ) (d : FrameCursor) → record { answer = refused m; cursor = d } ≡ stepSpec s t c → leftOver s t c k ≡ refused m
+    pub refusal-told : (m : ℕ) (d : FrameCursor) → record { answer = refused m; cursor = d } ≡ stepSpec s t c
+        → leftOver s t c k ≡ refused m
     unfolding stepSpec
-    refusal-told m d e = by-refusal (shapeOfBoth s t) (here s t c) m k (left-step s t c) (ap (λ (r : Stepped). r .answer) (sym e))
+    refusal-told m d e =
+        by-refusal (shapeOfBoth s t) (here s t c) m k (left-step s t c) (ap (λ (r : Stepped). r .answer) (sym e))
+
+merge-few : (os : List OldFrame) (ns : List NewFrame) → length (merge os ns) ≤ length os + length ns
+merge-few =
+    by-merge (λ os ns l. length l ≤ length os + length ns) (omega arith)
+    (λ o os ns l h k. omega (arith, k))
+    (λ n os ns l h k. omega (arith, k))
+    (λ n o os ns l e k. omega (arith, k))
+
+counts : (fault : Option ℕ) (b : Bool) (l : List Pick)
+    → unless fault (cond b (value (0 + length l)) (refused 4))
+    ≡ howMany (unless fault (cond b (value (map frame l)) (refused 4)))
+counts none true l = ap value (zero-add (length l) ∙ sym (length-map l frame))
+counts none false l = refl
+counts (some n) b l = refl
 
 -- where the frames are counted, no table and no frame is refused
-counted-by : (s t : List ℕ) (n : ℕ) (fault : Option ℕ) (b : Bool) → shapeOfBoth s t ≡ fault → allFit (merge (olds s) (news t)) ≡ b
-    → value n ≡ howMany (unless fault (cond b (value (map frame (merge (olds s) (news t)))) (refused 4))) → Counted s t n
+counted-by : (s t : List ℕ) (n : ℕ) (fault : Option ℕ) (b : Bool) → shapeOfBoth s t ≡ fault
+    → allFit (merge (olds s) (news t)) ≡ b
+    → value n ≡ howMany (unless fault (cond b (value (map frame (merge (olds s) (news t)))) (refused 4)))
+    → FrameCount s t n
 counted-by s t n none true g f e =
     let m : n ≡ length (map frame (merge (olds s) (news t))) = cc in
     record { good = g; fit = f; number = m ∙ length-map (merge (olds s) (news t)) frame }
@@ -162,22 +154,18 @@ counted-by s t n (some m) b g f e = let z : _≡_ {A = ℕ} 0 1 = cc in absurd (
 
 -- the whole iteration
 module _ (s t : List ℕ) where
-  pub from-start : left s t atStart ≡ merge (olds s) (news t)
-  from-start =
-      sym
-      (ap (λ (x : List OldFrame). merge x (news t)) (listed-all (oldRecord s) (length s / 16))
-      ∙ ap (λ (y : List NewFrame). merge (oldsFrom s 0) y) (listed-all (newRecord t) (length t / 32)))
-
-  pub all-left : leftOver s t atStart 0 ≡ howMany (yielded s t)
-  unfolding yielded
-  all-left = rw from-start (counts (shapeOfBoth s t) (allFit (merge (olds s) (news t))) (merge (olds s) (news t)))
+  pub all-left : leftOver s t atStart 0 ≡ howMany (framesOrRefusal s t)
+  unfolding framesOrRefusal
+  all-left =
+      rw (from-start s t) (counts (shapeOfBoth s t) (allFit (merge (olds s) (news t))) (merge (olds s) (news t)))
 
   -- no more frames than records
   pub few-left : length (left s t atStart) ≤ length s / 16 + length t / 32
   few-left =
-      rw from-start
-      (omega (arith, merge-few (olds s) (news t), length-listed (oldRecord s) 0 (length s / 16), length-listed (newRecord t) 0 (length t / 32)))
+      let o : length (olds s) ≡ length s / 16 = length-listed (oldRecord s) 0 (length s / 16) in
+      let n : length (news t) ≡ length t / 32 = length-listed (newRecord t) 0 (length t / 32) in
+      rw (from-start s t) (omega (arith, merge-few (olds s) (news t)))
 
-  pub counted-all : (n : ℕ) → value n ≡ howMany (yielded s t) → Counted s t n
-  unfolding yielded
+  pub counted-all : (n : ℕ) → value n ≡ howMany (framesOrRefusal s t) → FrameCount s t n
+  unfolding framesOrRefusal
   counted-all n e = counted-by s t n (shapeOfBoth s t) (allFit (merge (olds s) (news t))) refl refl e

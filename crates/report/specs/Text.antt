@@ -1,5 +1,7 @@
--- Texts. A text is a list of bytes, in ASCII; each of its lines ends in a line feed, 10.
-use Prim.Native.Nat.{ℕ, zero, suc, _+_, _/_, _%_, _≤_}
+-- Texts. A text is a list of bytes, in ASCII; each of its lines ends in a line feed.
+use Prim.Native.Nat.{ℕ, zero, suc, _+_, _-_, _/_, _%_, _≤_}
+use Prim.Native.Char.{code}
+use Prim.Native.String.{String, [] as empty, _∷_ as _∷ˢ_}
 use mathlib.Core.Path.{_≡_}
 use mathlib.Core.Bool.{cond}
 use mathlib.Core.List.{List, [], _∷_, _++_}
@@ -8,9 +10,18 @@ use lib.Seq.{sets}
 use lib.Dec.{ltb, leb}
 use Rattle.lent.specs.Words.{writtenOver}
 
+-- the bytes of a quoted text
+abbrev pub ascii : String → List ℕ
+ascii empty = []
+ascii (c ∷ˢ s) = code c ∷ ascii s
+
+-- a text, and the end of its line
+abbrev pub line : List ℕ → List ℕ
+line text = text ++ ascii "\n"
+
 -- a digit below 16: `0` to `9`, then `A` to `F`
 unfoldable pub glyph : ℕ → ℕ
-glyph d = cond (ltb d 10) (48 + d) (55 + d)
+glyph d = cond (ltb d 10) (code "0" + d) (code "A" + (d - 10))
 
 -- the last w digits of n in base b, the most significant first
 unfoldable pub digits : ℕ → ℕ → ℕ → List ℕ
@@ -34,22 +45,23 @@ places n = placesIn n n
 abbrev pub decimal : ℕ → List ℕ
 decimal n = digits 10 (places n) n
 
--- a line: a word, a number in decimal, a line feed
+-- a line: a word, and a number in decimal
 abbrev pub numbered : List ℕ → ℕ → List ℕ
-numbered word n = word ++ (decimal n ++ (10 ∷ []))
+numbered word n = word ++ line (decimal n)
 
 -- the line of each element, one after the other
 unfoldable pub lines : {A : Type 0} → (A → List ℕ) → List A → List ℕ
 lines f [] = []
 lines f (x ∷ l) = f x ++ lines f l
 
--- `refused `
-abbrev pub refusedWord : List ℕ
-refusedWord = 114 ∷ 101 ∷ 102 ∷ 117 ∷ 115 ∷ 101 ∷ 100 ∷ 32 ∷ []
-
 -- a refused run prints this line only
 abbrev pub refusedText : ℕ → List ℕ
-refusedText n = numbered refusedWord n
+refusedText n = numbered (ascii "refused ") n
+
+-- the text for a program's input: under `least` bytes in all refused 1, over 65,536, whatever stands in it, refused 2
+abbrev pub inputText : ℕ → List ℕ → List ℕ → List ℕ
+inputText least input text =
+    cond (ltb (length input) least) (refusedText 1) (cond (leb (length input) 65536) text (refusedText 2))
 
 -- a text is written over lent bytes from a place on, inside them, and the place after it is answered
 pub record Wrote (text before : List ℕ) (at r : ℕ) (after : List ℕ) : Type 0 where
@@ -57,8 +69,8 @@ pub record Wrote (text before : List ℕ) (at r : ℕ) (after : List ℕ) : Type
   pub bytes : after ≡ sets before at text
   pub room : at + length text ≤ length before
 
--- A whole text at the front of lent bytes, and its length as the answer. With less room than the largest text of its kind
--- needs, the answer is 0 and the bytes are as they were.
+-- A whole text at the front of lent bytes, and its length as the answer. With less room than the largest text of its
+-- kind needs, the answer is 0 and the bytes are as they were.
 pub record Printed (room : ℕ) (text before : List ℕ) (r : ℕ) (after : List ℕ) : Type 0 where
   pub answer : r ≡ cond (leb room (length before)) (length text) 0
   pub bytes : after ≡ cond (leb room (length before)) (writtenOver text before) before

@@ -1,30 +1,25 @@
 -- What the program `window` prints: document 01, the last part of "Cases by number".
 use Prim.Native.Nat.{ℕ}
-use mathlib.Core.Bool.{true, cond}
+use mathlib.Core.Bool.{true}
 use mathlib.Core.List.{List, [], _∷_, _++_}
 use lib.ListN.{length, drop}
-use lib.Dec.{ltb, leb}
 use Rattle.lent.specs.Le.{leAt}
 use Rattle.omap.specs.Window.{windowPieces}
 use Rattle.omap.specs.declared.walk.Piece.{Piece}
-use Rattle.omap.specs.Output.{shown, Window, counted, refusedAs, refusedFor, windowSpec}
-use Rattle.report.specs.Text.{hex, numbered, lines, refusedText}
+use Rattle.omap.specs.Output.{besideStart, Window, counted, refusedAs, refusedFor, windowSpec}
+use Rattle.report.specs.Text.{ascii, line, hex, numbered, lines, refusedText, inputText}
 
 -- two numbers of 32 bits as hex digits, one space between
 abbrev pub pairLine : ℕ → ℕ → List ℕ
-pairLine x y = hex 8 x ++ (32 ∷ (hex 8 y ++ (10 ∷ [])))
+pairLine x y = hex 8 x ++ (ascii " " ++ line (hex 8 y))
 
 -- a piece: its start, and what it shows beside it
 abbrev pub pieceLine : Piece → List ℕ
-pieceLine p = pairLine (p .to) (shown p)
-
--- `pieces `
-abbrev pub piecesWord : List ℕ
-piecesWord = 112 ∷ 105 ∷ 101 ∷ 99 ∷ 101 ∷ 115 ∷ 32 ∷ []
+pieceLine p = pairLine (p .to) (besideStart p)
 
 -- the answer about a window: a line for each piece and their number, or the refusal alone
 abbrev pub windowPrinted : Window → List Piece → List ℕ
-windowPrinted (counted n) l = lines pieceLine l ++ numbered piecesWord n
+windowPrinted (counted n) l = lines pieceLine l ++ numbered (ascii "pieces ") n
 windowPrinted (refusedAs n) l = refusedText n
 windowPrinted (refusedFor n k) l = refusedText n
 
@@ -33,12 +28,9 @@ unfoldable pub tableText : ℕ → ℕ → List ℕ → List ℕ
 tableText a b table =
     windowPrinted (windowSpec true table a b (length (windowPieces true table a b))) (windowPieces true table a b)
 
--- The input is a, b, and the table. Under 8 bytes in all: refused 1; over 65,536 in all, whatever the length: refused 2.
+-- the input is a, b, and the table
 unfoldable pub windowText : List ℕ → List ℕ
-windowText input =
-    cond (ltb (length input) 8)
-    (refusedText 1)
-    (cond (leb (length input) 65536) (tableText (leAt 4 input 0) (leAt 4 input 4) (drop 8 input)) (refusedText 2))
+windowText input = inputText 8 input (tableText (leAt 4 input 0) (leAt 4 input 4) (drop 8 input))
 
 -- room for the largest text: 8,191 lines of 18 bytes, and the line that counts them
 abbrev pub windowRoom : ℕ

@@ -1,12 +1,13 @@
 // The line of a frame, in columns.
 ghost use mathlib.Core.Path.{_≡_};
-ghost use mathlib.Core.List.{_∷_, [], _++_};
+ghost use mathlib.Core.List.{_∷_, []};
 ghost use Prim.Native.Nat.{_+_, _≤_};
 ghost use lib.ListN.{length};
 ghost use Rattle.framedata.specs.Attributes.{typeNumber};
 ghost use Rattle.framedata.specs.Frame.{toldStack, toldProgram, toldFrame};
-ghost use Rattle.report.specs.Text.{hex, Wrote};
-ghost use Rattle.report.specs.Frames.{padded, columns, typeName, optional, flag, flags, sizeColumns, kindColumns, frameLine};
+ghost use Rattle.report.specs.Text.{line, Wrote};
+ghost use Rattle.report.specs.Frames.{padded, columns, typeName, optional, flag, flags};
+ghost use Rattle.report.specs.Frames.{sizeColumns, frameLine};
 use crate::text::hex;
 use crate::text::put;
 use framedata::FrameData;
@@ -14,36 +15,18 @@ use framedata::FrameType;
 use framedata::Program;
 use framedata::StackSize;
 
-// The columns start, size and locals.
-fn extent(f: FrameData, out: &mut [u8], at: usize) -> usize
-    requires { ⌜ at + 27 ≤ length (now out) ⌝ }
-    ensures { λ r. ⌜ Wrote (columns (hex 8 (f .«code_start») ∷ (hex 8 (f .«code_size») ∷ (hex 8 (f .«locals_size») ∷ [])))) (now (out .entry)) at r (now (out .exit)) ⌝ }
-    ensures { λ r. ⌜ r ≡ at + 27 ⌝ }
-{
-    let size = hex(f.code_start as u64, 8, b" ", out, at);
-    let locals = hex(f.code_size as u64, 8, b" ", out, size);
-    hex(f.locals_size as u64, 8, b" ", out, locals)
-}
-
-// The columns params, prolog and saved.
-fn pushed(f: FrameData, out: &mut [u8], at: usize) -> usize
-    requires { ⌜ at + 22 ≤ length (now out) ⌝ }
-    ensures { λ r. ⌜ Wrote (columns (hex 8 (f .«params_size») ∷ (padded 6 (hex 4 (f .«prolog_size»)) ∷ (padded 5 (hex 4 (f .«saved_regs_size»)) ∷ [])))) (now (out .entry)) at r (now (out .exit)) ⌝ }
-    ensures { λ r. ⌜ r ≡ at + 22 ⌝ }
-{
-    let prolog = hex(f.params_size as u64, 8, b" ", out, at);
-    let saved = hex(f.prolog_size as u64, 4, b"   ", out, prolog);
-    hex(f.saved_regs_size as u64, 4, b"  ", out, saved)
-}
-
 // The columns of the sizes.
 fn sizes(f: FrameData, out: &mut [u8], at: usize) -> usize
     requires { ⌜ at + 49 ≤ length (now out) ⌝ }
     ensures { λ r. ⌜ Wrote (columns (sizeColumns (toldFrame f))) (now (out .entry)) at r (now (out .exit)) ⌝ }
     ensures { λ r. ⌜ r ≡ at + 49 ⌝ }
 {
-    let params = extent(f, out, at);
-    pushed(f, out, params)
+    let size = hex(f.code_start as u64, 8, b" ", out, at);
+    let locals = hex(f.code_size as u64, 8, b" ", out, size);
+    let params = hex(f.locals_size as u64, 8, b" ", out, locals);
+    let prolog = hex(f.params_size as u64, 8, b" ", out, params);
+    let saved = hex(f.prolog_size as u64, 4, b"   ", out, prolog);
+    hex(f.saved_regs_size as u64, 4, b"  ", out, saved)
 }
 
 // The column stack.
@@ -73,7 +56,9 @@ fn program(string: Program, out: &mut [u8], at: usize) -> usize
 // The column type.
 fn kind(ty: FrameType, out: &mut [u8], at: usize) -> usize
     requires { ⌜ at + 8 ≤ length (now out) ⌝ }
-    ensures { λ r. ⌜ Wrote (columns (padded 5 (typeName (typeNumber ty)) ∷ [])) (now (out .entry)) at r (now (out .exit)) ⌝ }
+    ensures { λ r. ⌜
+        Wrote (columns (padded 5 (typeName (typeNumber ty)) ∷ [])) (now (out .entry)) at r (now (out .exit))
+        ⌝ }
     ensures { λ r. ⌜ r ≤ at + 8 ⌝ }
 {
     match ty {
@@ -96,7 +81,7 @@ fn letter(on: bool, letter: u8) -> u8
 // The flags, and the end of the line.
 fn letters(f: FrameData, out: &mut [u8], at: usize) -> usize
     requires { ⌜ at + 5 ≤ length (now out) ⌝ }
-    ensures { λ r. ⌜ Wrote (flags (toldFrame f) ++ (10 ∷ [])) (now (out .entry)) at r (now (out .exit)) ⌝ }
+    ensures { λ r. ⌜ Wrote (line (flags (toldFrame f))) (now (out .entry)) at r (now (out .exit)) ⌝ }
     ensures { λ r. ⌜ r ≡ at + 5 ⌝ }
 {
     let text = [

@@ -4,9 +4,9 @@ ghost use Prim.Native.Nat.{_+_, _*_, _≤_};
 ghost use lib.ListN.{length};
 ghost use Rattle.lent.specs.Paper.{value};
 ghost use Rattle.report.specs.Text.{lines, Wrote, Printed};
-ghost use Rattle.report.specs.Frames.{frameLine, frames, framesPrinted, yielded, Counted, howMany, toldTallied, framesText, framesRoom};
+ghost use Rattle.report.specs.Frames.{frameLine, frames, framesPrinted, framesOrRefusal, framesText, framesRoom};
+ghost use Rattle.report.specs.Frames.{FrameCount, howMany, toldTallied};
 use crate::frame_line::frame_line;
-use crate::text::number;
 use crate::text::numbered;
 use crate::text::put;
 use crate::text::refused;
@@ -26,7 +26,7 @@ enum Tallied {
 }
 
 fn tally(old: &[u8], new: &[u8]) -> Tallied
-    ensures { λ r. ⌜ toldTallied r ≡ howMany (yielded (now (old .entry)) (now (new .entry))) ⌝ }
+    ensures { λ r. ⌜ toldTallied r ≡ howMany (framesOrRefusal (now (old .entry)) (now (new .entry))) ⌝ }
 {
     let mut cursor = FrameCursor::new();
     let mut n: usize = 0;
@@ -52,8 +52,10 @@ fn tally(old: &[u8], new: &[u8]) -> Tallied
 
 // The line of each frame. Nothing is refused here: `tally` has gone the same way before.
 fn frame_lines(old: &[u8], new: &[u8], n: usize, out: &mut [u8], at: usize) -> usize
-    requires { ⌜ Counted (now old) (now new) n × (at + 80 * n ≤ length (now out)) ⌝ }
-    ensures { λ r. ⌜ Wrote (lines frameLine (frames (now (old .entry)) (now (new .entry)))) (now (out .entry)) at r (now (out .exit)) ⌝ }
+    requires { ⌜ FrameCount (now old) (now new) n × (at + 80 * n ≤ length (now out)) ⌝ }
+    ensures { λ r. ⌜
+        Wrote (lines frameLine (frames (now (old .entry)) (now (new .entry)))) (now (out .entry)) at r (now (out .exit))
+        ⌝ }
     ensures { λ r. ⌜ r ≤ at + 80 * n ⌝ }
 {
     let mut cursor = FrameCursor::new();
@@ -80,8 +82,11 @@ fn frame_lines(old: &[u8], new: &[u8], n: usize, out: &mut [u8], at: usize) -> u
 
 // The heading, the frames, and their number.
 fn listing(old: &[u8], new: &[u8], n: usize, out: &mut [u8]) -> usize
-    requires { ⌜ Counted (now old) (now new) n × ((n ≤ 4095) × (framesRoom ≤ length (now out))) ⌝ }
-    ensures { λ r. ⌜ Wrote (framesPrinted (value (frames (now (old .entry)) (now (new .entry))))) (now (out .entry)) 0 r (now (out .exit)) ⌝ }
+    requires { ⌜ FrameCount (now old) (now new) n × ((n ≤ 4095) × (framesRoom ≤ length (now out))) ⌝ }
+    ensures { λ r. ⌜
+        Wrote (framesPrinted (value (frames (now (old .entry)) (now (new .entry)))))
+        (now (out .entry)) 0 r (now (out .exit))
+        ⌝ }
 {
     let first = put(
         b"start    size     locals   params   prolog saved stack    program  type  flags\n",
@@ -95,13 +100,16 @@ fn listing(old: &[u8], new: &[u8], n: usize, out: &mut [u8]) -> usize
 // The frames of both tables, or the refusal.
 fn tables_text(old: &[u8], new: &[u8], out: &mut [u8]) -> usize
     requires { ⌜ (length (now old) + length (now new) ≤ 65532) × (framesRoom ≤ length (now out)) ⌝ }
-    ensures { λ r. ⌜ Wrote (framesPrinted (yielded (now (old .entry)) (now (new .entry)))) (now (out .entry)) 0 r (now (out .exit)) ⌝ }
+    ensures { λ r. ⌜
+        Wrote (framesPrinted (framesOrRefusal (now (old .entry)) (now (new .entry))))
+        (now (out .entry)) 0 r (now (out .exit))
+        ⌝ }
 {
     let tallied = tally(old, new);
     match tallied {
         Tallied::Frames(n) => listing(old, new, n, out),
-        Tallied::Refused(why) => refused(number(why), out),
-        Tallied::TooLarge => refused(4, out),
+        Tallied::Refused(why) => refused(lent::refusal_number(why), out),
+        Tallied::TooLarge => refused(lent::TOO_LARGE, out),
     }
 }
 

@@ -3,9 +3,7 @@ ghost use mathlib.Core.Path.{_≡_};
 ghost use mathlib.Core.List.{_++_};
 ghost use Prim.Native.Nat.{_+_, _≤_, _<_};
 ghost use lib.ListN.{length};
-ghost use Rattle.lent.specs.Paper.{number};
 ghost use Rattle.report.specs.Text.{glyph, digits, hex, places, numbered, refusedText, Wrote};
-use lent::Refusal;
 
 // A digit below 16 in ASCII.
 fn glyph(d: u64) -> u8
@@ -80,21 +78,10 @@ pub(crate) fn numbered(word: &[u8], n: usize, out: &mut [u8], at: usize) -> usiz
     put(b"\n", out, told)
 }
 
-// The paper's number of a table's refusal.
-pub(crate) fn number(why: Refusal) -> usize
-    ensures { λ r. ⌜ r ≡ number why ⌝ }
-{
-    match why {
-        Refusal::Length => 1,
-        Refusal::Count => 2,
-        Refusal::Order => 3,
-    }
-}
-
 // A refusal's line, alone.
-pub(crate) fn refused(n: usize, out: &mut [u8]) -> usize
+pub(crate) fn refused(n: u32, out: &mut [u8]) -> usize
     requires { ⌜ (n < 10) × (10 ≤ length (now out)) ⌝ }
     ensures { λ r. ⌜ Wrote (refusedText n) (now (out .entry)) 0 r (now (out .exit)) ⌝ }
 {
-    numbered(b"refused ", n, out, 0)
+    numbered(b"refused ", n as usize, out, 0)
 }

@@ -1,16 +1,14 @@
 // What the program `window` prints.
-ghost use mathlib.Core.Path.{_≡_};
 ghost use mathlib.Core.List.{_++_};
 ghost use Prim.Native.Nat.{_+_, _*_, _≤_};
 ghost use lib.ListN.{length, take};
-ghost use Rattle.report.specs.Text.{numbered, Wrote, Printed};
-ghost use Rattle.report.specs.Window.{pairLine, pairLines, piecesWord, tableText, windowText, windowRoom};
+ghost use Rattle.report.specs.Text.{ascii, numbered, Wrote, Printed};
+ghost use Rattle.report.specs.Window.{pairLine, pairLines, tableText, windowText, windowRoom};
 use crate::text::hex;
-use crate::text::number;
 use crate::text::numbered;
 use crate::text::refused;
-use omap::window::Windowed;
-use omap::window::lookup_range;
+use omap::windows::Windowed;
+use omap::windows::window;
 
 // Room for the largest text: 8,191 lines of 18 bytes, and the line that counts them.
 pub const WINDOW_ROOM: usize = 147456;
@@ -42,7 +40,10 @@ fn pair_lines(pairs: &[u32], out: &mut [u8], at: usize) -> usize
 // The lines of the first n pairs, and their number.
 fn pieces_text(pairs: &[u32], n: usize, out: &mut [u8]) -> usize
     requires { ⌜ (2 * n ≤ length (now pairs)) × ((n ≤ 8191) × (windowRoom ≤ length (now out))) ⌝ }
-    ensures { λ r. ⌜ Wrote (pairLines (take (2 * n) (now (pairs .entry))) ++ numbered piecesWord n) (now (out .entry)) 0 r (now (out .exit)) ⌝ }
+    ensures { λ r. ⌜
+        Wrote (pairLines (take (2 * n) (now (pairs .entry))) ++ numbered (ascii "pieces ") n)
+        (now (out .entry)) 0 r (now (out .exit))
+        ⌝ }
 {
     let last = 2 * n;
     let at = pair_lines(&pairs[..last], out, 0);
@@ -55,12 +56,12 @@ fn table_text(a: u32, b: u32, table: &[u8], out: &mut [u8]) -> usize
     ensures { λ r. ⌜ Wrote (tableText a b (now (table .entry))) (now (out .entry)) 0 r (now (out .exit)) ⌝ }
 {
     let mut pairs = [0u32; 16384];
-    let windowed = lookup_range(true, table, a, b, &mut pairs);
+    let windowed = window(true, table, a, b, &mut pairs);
     match windowed {
         Windowed::Pieces(n) => pieces_text(&pairs, n, out),
-        Windowed::Refused(why) => refused(number(why), out),
-        Windowed::TooLarge => refused(4, out),
-        Windowed::Short(_) => refused(5, out),
+        Windowed::Refused(why) => refused(lent::refusal_number(why), out),
+        Windowed::TooLarge => refused(lent::TOO_LARGE, out),
+        Windowed::Short(_) => refused(lent::SHORT, out),
     }
 }
 

@@ -28,7 +28,9 @@ array-share-prefix-out : tie.Need-array-share-prefix-out
 array-share-prefix-out c = search needs
 
 slice-aggregate-write-all : tie.Need-slice-aggregate-write-all
-slice-aggregate-write-all c = sym (length-take-le (c .before .before .frames-text .result) (c .before .before .frames-text .last .1 .0) (c .before .before .frames-text .ensures .within))
+slice-aggregate-write-all c =
+    let text = c .before .before .frames-text in
+    sym (length-take-le (text .result) (text .last .1 .0) (text .ensures .within))
 
 write-all-requires : tie.Need-write-all-requires
 write-all-requires c κs = search needs

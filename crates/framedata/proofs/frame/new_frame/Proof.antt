@@ -66,8 +66,21 @@ u32-at-requires-7 c κs = search needs
 returns : tie.Need-returns
 unfolding fromNew
 returns c =
-    let a = c .before .before .before .before .before .before .before .before .before .before .args in
-    rw (div-one (leAt 4 (now (a .table)) (32 * a .place + 28)), c .before .before .before .before .before .before .before .before .u32-at .ensures, c .before .before .before .before .before .before .before .u32-at2 .ensures, c .before .before .before .before .before .before .u32-at3 .ensures, c .before .before .before .before .before .u32-at4 .ensures, c .before .before .before .before .u32-at5 .ensures, c .before .before .before .u16-at .ensures, c .before .before .u16-at2 .ensures, c .before .u32-at6 .ensures, c .u32-at7 .ensures)
+    let params = c .before .before .before .before in
+    let flags = params .before .before .before .before in
+    let a = flags .before .before .args in
+    rw (
+      div-one (leAt 4 (now (a .table)) (32 * a .place + 28)),
+      flags .u32-at .ensures,
+      params .before .before .before .u32-at2 .ensures,
+      params .before .before .u32-at3 .ensures,
+      params .before .u32-at4 .ensures,
+      params .u32-at5 .ensures,
+      c .before .before .before .u16-at .ensures,
+      c .before .before .u16-at2 .ensures,
+      c .before .u32-at6 .ensures,
+      c .u32-at7 .ensures,
+    )
 
 pub new-frame-spec : {M : Type 1} → statement M
 new-frame-spec =

@@ -1,16 +1,16 @@
 -- `framedata::new_frame_at` meets its contract: 1, 2, none past the last, or the frame.
 -- Assumes nothing.
-use mathlib.Core.Path.{_≡_, sym, ap, _∙_}
-use mathlib.Core.Option.{none, some}
-use Prim.Native.Nat.{_/_}
+use mathlib.Core.Path.{_≡_}
+use mathlib.Core.List.{List}
+use mathlib.Core.Option.{none}
+use Prim.Native.Nat.{ℕ, _/_}
 use lib.ListN.{length}
 use native.Mathlib.Omega.{arith}
 use denote.Ref.{now}
-use Rattle.lent.specs.Paper.{number, toldChecked}
 use Rattle.lent.specs.Table.{newFrameShape}
 use Rattle.framedata.specs.Records.{newRecord}
 use Rattle.framedata.specs.Frame.{newFrameSpec}
-use Rattle.framedata.proofs.Framing.{there, used-up}
+use Rattle.framedata.proofs.Framing.{bad, good, there, used-up}
 use borrow.Author.Needs.{needs}
 use Rattle.framedata.proofs.frame.new_frame_at.Statement.{statement}
 use Rattle.framedata.proofs.frame.new_frame_at.Tie as tie
@@ -23,24 +23,27 @@ enum-known-shaped c = search needs
 
 returns : tie.Need-returns
 unfolding newFrameSpec
-returns c =
-    let a = c .before .before .before .before .before .args in
-    let e : some (number (c .before .shaped .given .0 .0)) ≡ newFrameShape (now (a .table)) = sym (ap toldChecked (c .before .shaped .given .1)) ∙ c .before .before .before .new-frame-shape .ensures in
-    rw (← e)
+returns c = rw (bad (c .before .before .before .new-frame-shape .ensures) (c .before .shaped .given .1))
 
 enum-told : tie.Need-enum-told
 enum-told c = search needs
 
 -- past the shape's test, the table's length is right
-good : (c : tie.After-enum-told) → none ≡ newFrameShape (now (c .before .before .before .before .args .table))
-good c = sym (ap toldChecked (c .enum-told .given .1)) ∙ c .before .before .new-frame-shape .ensures
+module _ (c : tie.After-enum-told) where
+  abbrev s : List ℕ
+  s = now (c .before .before .before .before .args .table)
+
+  abbrev i : ℕ
+  i = c .before .before .before .before .args .place
+
+  right : newFrameShape s ≡ none
+  right = good (c .before .before .new-frame-shape .ensures) (c .enum-told .given .1)
 
 returns-2 : tie.Need-returns-2
 unfolding newFrameSpec
 returns-2 c =
-    let a = c .before .before .before .before .before .args in
-    let s = now (a .table) in
-    rw (← (good (c .before)), used-up (newRecord s) (length s / 32) (a .place) (omega arith))
+    let p = c .before in
+    rw (right p, used-up (newRecord (s p)) (length (s p) / 32) (i p) (omega arith))
 
 new-frame-requires : tie.Need-new-frame-requires
 new-frame-requires c κs = search needs
@@ -48,9 +51,8 @@ new-frame-requires c κs = search needs
 returns-3 : tie.Need-returns-3
 unfolding newFrameSpec
 returns-3 c =
-    let a = c .before .before .before .before .before .before .args in
-    let s = now (a .table) in
-    rw (← (good (c .before .before)), there (newRecord s) (length s / 32) (a .place) (omega arith), c .new-frame .ensures)
+    let p = c .before .before in
+    rw (right p, there (newRecord (s p)) (length (s p) / 32) (i p) (omega arith), c .new-frame .ensures)
 
 pub new-frame-at-spec : {M : Type 1} → statement M
 new-frame-at-spec =

@@ -1,15 +1,14 @@
 -- `framedata::old_frame` meets its contract: 4, or the frame field by field.
 -- Assumes nothing.
-use mathlib.Core.Path.{_≡_, sym, ap, _∙_}
+use mathlib.Core.Path.{_≡_, ap, _∙_}
 use native.Mathlib.Omega.{arith}
 use denote.Ref.{now}
-use Rattle.framedata.specs.Records.{oldRecord}
-use Prim.Native.Nat.{_+_, _*_}
-use Rattle.lent.specs.Le.{leAt}
+use Prim.Native.Nat.{_*_}
+use borrow.Author.Tests.{le-leb, lt-leb}
+use Rattle.framedata.specs.Records.{OldFrame, oldRecord}
 use Rattle.framedata.specs.Attributes.{Attributes, attributes, toldAttributes}
 use Rattle.framedata.specs.Frame.{fromOld}
 use Rattle.framedata.proofs.Bits.{few-saved}
-use Rattle.framedata.proofs.Framing.{too-large, fitting}
 use borrow.Author.Needs.{needs}
 use Rattle.framedata.proofs.frame.old_frame.Statement.{statement}
 use Rattle.framedata.proofs.frame.old_frame.Tie as tie
@@ -29,10 +28,13 @@ add-u16-at c = search needs
 u16-at-requires : tie.Need-u16-at-requires
 u16-at-requires c κs = search needs
 
+abbrev o : tie.After-u16-at → OldFrame
+o c = oldRecord (now (c .before .before .before .args .table)) (c .before .before .before .args .place)
+
 returns : tie.Need-returns
 returns c =
-    let a = c .before .before .before .before .args in
-    sym (too-large (oldRecord (now (a .table)) (a .place)) (omega arith))
+    let p = c .before in
+    rw (lt-leb (o p .localsSize * 4) 4294967295 (omega (arith, p .before .u32-at .ensures)))
 
 add-u16-at-2 : tie.Need-add-u16-at-2
 add-u16-at-2 c = search needs
@@ -61,18 +63,34 @@ cast-t14 c = search needs
 mul-t15 : tie.Need-mul-t15
 mul-t15 c = search needs
 
+-- the attributes, by the field that holds them
+module _ (c : tie.After-attributes-of) where
+  abbrev fields : tie.After-u16-at
+  fields = c .before .before .before
+
+  bits : toldAttributes (c .attributes-of .result) ≡ attributes (o fields .attributes)
+  bits = c .attributes-of .ensures ∙ ap attributes (c .before .u16-at2 .ensures)
+
 mul-t10 : tie.Need-mul-t10
 mul-t10 c =
-    let e : toldAttributes (c .before .before .before .attributes-of .result) ≡ attributes (c .before .before .before .before .u16-at2 .result) = c .before .before .before .attributes-of .ensures in
-    omega (arith, few-saved (c .before .before .before .before .u16-at2 .result), ap (λ (b : Attributes). b .savedRegs) e)
+    let p = c .before .before .before in
+    omega (arith, few-saved (o (fields p) .attributes), ap (λ (b : Attributes). b .savedRegs) (bits p))
 
 returns-2 : tie.Need-returns-2
 unfolding fromOld
 returns-2 c =
-    let a = c .before .before .before .before .before .before .before .before .before .args in
-    let bits : toldAttributes (c .before .before .before .attributes-of .result) ≡ attributes (leAt 2 (now (a .table)) (16 * a .place + 14))
-    = c .before .before .before .attributes-of .ensures ∙ ap attributes (c .before .before .before .before .u16-at2 .ensures) in
-    rw (fitting (oldRecord (now (a .table)) (a .place)) (omega arith), ← bits, c .before .before .u32-at2 .ensures, c .before .u32-at3 .ensures, c .before .before .before .before .before .before .before .u32-at .ensures, c .before .before .before .before .before .before .u16-at .ensures)
+    let p = c .before .before .before in
+    let q = p .before .before .before in
+    let a = q .before .before .before .args in
+    let locals = oldRecord (now (a .table)) (a .place) .localsSize * 4 in
+    rw (
+      le-leb locals 4294967295 (omega (arith, q .before .u32-at .ensures)),
+      ← (bits p),
+      c .before .before .u32-at2 .ensures,
+      c .before .u32-at3 .ensures,
+      q .before .u32-at .ensures,
+      q .u16-at .ensures,
+    )
 
 pub old-frame-spec : {M : Type 1} → statement M
 old-frame-spec =

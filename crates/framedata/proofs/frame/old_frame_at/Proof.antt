@@ -1,16 +1,16 @@
 -- `framedata::old_frame_at` meets its contract: 1, 2, none past the last, 4, or the frame.
 -- Assumes nothing.
 use mathlib.Core.Path.{_≡_, sym, ap, _∙_}
-use mathlib.Core.Option.{none, some}
-use Prim.Native.Nat.{_/_}
+use mathlib.Core.List.{List}
+use mathlib.Core.Option.{none}
+use Prim.Native.Nat.{ℕ, _/_}
 use lib.ListN.{length}
 use native.Mathlib.Omega.{arith}
 use denote.Ref.{now}
-use Rattle.lent.specs.Paper.{number, toldChecked}
 use Rattle.lent.specs.Table.{oldFrameShape}
 use Rattle.framedata.specs.Records.{oldRecord}
 use Rattle.framedata.specs.Frame.{oldFrameSpec, toldDecoded}
-use Rattle.framedata.proofs.Framing.{there, used-up}
+use Rattle.framedata.proofs.Framing.{bad, good, there, used-up}
 use borrow.Author.Needs.{needs}
 use Rattle.framedata.proofs.frame.old_frame_at.Statement.{statement}
 use Rattle.framedata.proofs.frame.old_frame_at.Tie as tie
@@ -23,24 +23,27 @@ enum-known-shaped c = search needs
 
 returns : tie.Need-returns
 unfolding oldFrameSpec
-returns c =
-    let a = c .before .before .before .before .before .args in
-    let e : some (number (c .before .shaped .given .0 .0)) ≡ oldFrameShape (now (a .table)) = sym (ap toldChecked (c .before .shaped .given .1)) ∙ c .before .before .before .old-frame-shape .ensures in
-    rw (← e)
+returns c = rw (bad (c .before .before .before .old-frame-shape .ensures) (c .before .shaped .given .1))
 
 enum-told : tie.Need-enum-told
 enum-told c = search needs
 
 -- past the shape's test, the table's length is right
-good : (c : tie.After-enum-told) → none ≡ oldFrameShape (now (c .before .before .before .before .args .table))
-good c = sym (ap toldChecked (c .enum-told .given .1)) ∙ c .before .before .old-frame-shape .ensures
+module _ (c : tie.After-enum-told) where
+  abbrev s : List ℕ
+  s = now (c .before .before .before .before .args .table)
+
+  abbrev i : ℕ
+  i = c .before .before .before .before .args .place
+
+  right : oldFrameShape s ≡ none
+  right = good (c .before .before .old-frame-shape .ensures) (c .enum-told .given .1)
 
 returns-2 : tie.Need-returns-2
 unfolding oldFrameSpec
 returns-2 c =
-    let a = c .before .before .before .before .before .args in
-    let s = now (a .table) in
-    rw (← (good (c .before)), used-up (oldRecord s) (length s / 16) (a .place) (omega arith))
+    let p = c .before in
+    rw (right p, used-up (oldRecord (s p)) (length (s p) / 16) (i p) (omega arith))
 
 old-frame-requires : tie.Need-old-frame-requires
 old-frame-requires c κs = search needs
@@ -54,17 +57,15 @@ enum-told-2 c = search needs
 returns-3 : tie.Need-returns-3
 unfolding oldFrameSpec
 returns-3 c =
-    let a = c .before .before .before .before .before .before .before .before .before .args in
-    let s = now (a .table) in
-    rw (← (good (c .before .before .before .before .before)), there (oldRecord s) (length s / 16) (a .place) (omega arith))
+    let p = c .before .before .before .before .before in
+    rw (right p, there (oldRecord (s p)) (length (s p) / 16) (i p) (omega arith))
     (ap toldDecoded (sym (c .before .decoded .given .1)) ∙ c .before .before .before .old-frame .ensures)
 
 returns-4 : tie.Need-returns-4
 unfolding oldFrameSpec
 returns-4 c =
-    let a = c .before .before .before .before .before .before .before .before .args in
-    let s = now (a .table) in
-    rw (← (good (c .before .before .before .before)), there (oldRecord s) (length s / 16) (a .place) (omega arith))
+    let p = c .before .before .before .before in
+    rw (right p, there (oldRecord (s p)) (length (s p) / 16) (i p) (omega arith))
     (ap toldDecoded (sym (c .enum-told2 .given .1)) ∙ c .before .before .old-frame .ensures)
 
 pub old-frame-at-spec : {M : Type 1} → statement M

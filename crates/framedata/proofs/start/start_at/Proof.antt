@@ -1,21 +1,18 @@
 -- `framedata::start_at` meets its contract: 1, 2, 3 of either table, or the place in each.
 -- Assumes nothing.
-use mathlib.Core.Path.{_≡_, sym, ap, _∙_}
-use mathlib.Core.Option.{none, some}
+use mathlib.Core.Path.{_≡_}
+use mathlib.Core.List.{List}
+use mathlib.Core.Option.{none}
+use Prim.Native.Nat.{ℕ}
 use native.Mathlib.Omega.{arith}
 use denote.Ref.{now}
-use Rattle.lent.specs.Paper.{value, refused, number, toldChecked}
-use Rattle.framedata.specs.Start.{faultOfBoth, startSpec}
-use Rattle.lent.specs.Table.{ifPresent}
-use Rattle.framedata.proofs.Framing.{of-both}
+use Rattle.framedata.specs.Tables.{faultOfBoth}
+use Rattle.framedata.specs.Start.{startSpec}
+use Rattle.framedata.proofs.Framing.{bad, good}
 use Rattle.framedata.proofs.Entering.{both-good}
 use borrow.Author.Needs.{needs}
 use Rattle.framedata.proofs.start.start_at.Statement.{statement}
 use Rattle.framedata.proofs.start.start_at.Tie as tie
-
--- an answer over the tables as they are held is one over the tables behind their marks
-kept : (c : tie.After-checks) → startSpec (c .before .before .before .before .before .args .address) (now (c .before .before .if-present .result)) (now (c .before .if-present2 .result)) ≡ startSpec (c .before .before .before .before .before .args .address) (ifPresent (c .before .before .before .before .before .args .old-present) (now (c .before .before .before .before .before .args .old))) (ifPresent (c .before .before .before .before .before .args .new-present) (now (c .before .before .before .before .before .args .new)))
-kept c = of-both (startSpec (c .before .before .before .before .before .args .address)) (c .before .before .if-present .ensures) (c .before .if-present2 .ensures)
 
 if-present-requires : tie.Need-if-present-requires
 if-present-requires c κs = search needs
@@ -32,30 +29,38 @@ enum-known-checked c = search needs
 returns : tie.Need-returns
 unfolding startSpec
 returns c =
-    let e : some (number (c .before .checked .given .0 .0)) ≡ faultOfBoth (now (c .before .before .before .before .before .if-present .result)) (now (c .before .before .before .before .if-present2 .result))
-    = sym (ap toldChecked (c .before .checked .given .1)) ∙ c .before .before .before .checks .ensures in
-    let d : refused (number (c .before .checked .given .0 .0)) ≡ startSpec (c .before .before .before .before .before .before .before .before .args .address) (now (c .before .before .before .before .before .if-present .result)) (now (c .before .before .before .before .if-present2 .result)) = rw (← e) in
-    d ∙ kept (c .before .before .before)
+    let p = c .before .before .before in
+    let q = p .before .before in
+    let r = bad (p .checks .ensures) (c .before .checked .given .1) in
+    rw (← (q .if-present .ensures), ← (p .before .if-present2 .ensures), r)
 
 enum-told : tie.Need-enum-told
 enum-told c = search needs
 
 -- past the checks, neither table is refused
-good : (c : tie.After-enum-told) → none ≡ faultOfBoth (now (c .before .before .before .before .if-present .result)) (now (c .before .before .before .if-present2 .result))
-good c = sym (ap toldChecked (c .enum-told .given .1)) ∙ c .before .before .checks .ensures
+module _ (c : tie.After-enum-told) where
+  abbrev olds : List ℕ
+  olds = now (c .before .before .before .before .if-present .result)
+
+  abbrev news : List ℕ
+  news = now (c .before .before .before .if-present2 .result)
+
+  right : faultOfBoth olds news ≡ none
+  right = good (c .before .before .checks .ensures) (c .enum-told .given .1)
 
 place-at-requires : tie.Need-place-at-requires
-place-at-requires c κs = (omega arith, both-good (now (c .before .before .before .before .if-present .result)) (now (c .before .before .before .if-present2 .result)) (good c) .0)
+place-at-requires c κs = (omega arith, both-good (olds c) (news c) (right c) .0)
 
 place-at-requires-2 : tie.Need-place-at-requires-2
-place-at-requires-2 c κs = (omega arith, both-good (now (c .before .before .before .before .before .if-present .result)) (now (c .before .before .before .before .if-present2 .result)) (good (c .before)) .1)
+place-at-requires-2 c κs = let p = c .before in (omega arith, both-good (olds p) (news p) (right p) .1)
 
 returns-2 : tie.Need-returns-2
 unfolding startSpec
 returns-2 c =
-    let d : value (record { «old_index» = c .before .place-at .result; «new_index» = c .place-at2 .result }) ≡ startSpec (c .before .before .before .before .before .before .before .before .before .args .address) (now (c .before .before .before .before .before .before .if-present .result)) (now (c .before .before .before .before .before .if-present2 .result))
-    = rw (← (good (c .before .before)), c .before .place-at .ensures, c .place-at2 .ensures) in
-    d ∙ kept (c .before .before .before .before)
+    let p = c .before .before in
+    let q = p .before .before .before in
+    let places = c .before .place-at .ensures in
+    rw (← (q .before .if-present .ensures), ← (q .if-present2 .ensures), right p, places, c .place-at2 .ensures)
 
 pub start-at-spec : {M : Type 1} → statement M
 start-at-spec =

@@ -31,9 +31,15 @@ same-length c = search needs
 returns : tie.Need-returns
 unfolding frameLine
 returns c =
-    let l = kindColumns (toldFrame (c .before .before .before .before .before .before .before .before .before .before .before .before .before .before .before .before .before .before .before .before .before .args .f)) in
-    let kinds = wrote-columns (take 1 l) (drop 1 l) (c .before .before .before .before .before .before .before .before .before .before .before .before .before .before .stack .ensures .0) (wrote-columns (take 1 (drop 1 l)) (drop 2 l) (c .before .before .before .before .before .before .before .before .before .before .program .ensures .0) (c .before .before .before .before .before .before .kind .ensures .0)) in
-    (wrote-both (c .before .before .before .before .before .before .before .before .before .before .before .before .before .before .before .before .before .before .sizes .ensures .0) (wrote-both kinds (c .before .before .letters .ensures .0)), omega arith)
+    let typed = c .before .before .before .before .before .before in
+    let programmed = typed .before .before .before .before in
+    let stacked = programmed .before .before .before .before in
+    let sized = stacked .before .before .before .before in
+    let l = kindColumns (toldFrame (sized .before .before .before .args .f)) in
+    let kinds
+    = wrote-columns (take 1 l) (drop 1 l) (stacked .stack .ensures .0)
+    (wrote-columns (take 1 (drop 1 l)) (drop 2 l) (programmed .program .ensures .0) (typed .kind .ensures .0)) in
+    (wrote-both (sized .sizes .ensures .0) (wrote-both kinds (c .before .before .letters .ensures .0)), omega arith)
 
 pub frame-line-spec : {M : Type 1} → statement M
 frame-line-spec =

@@ -65,42 +65,54 @@ same-length c = search needs
 
 returns : tie.Need-returns
 unfolding typeName
-returns c = rw (c .before .before .before .before .before .enum-told .given .1) (c .before .before .put .ensures, omega (arith, c .before .before .put .ensures .place))
+returns c =
+    let w = c .before .before in
+    rw (w .before .before .before .enum-told .given .1) (w .put .ensures, omega (arith, w .put .ensures .place))
 
 same-length-2 : tie.Need-same-length-2
 same-length-2 c = search needs
 
 returns-2 : tie.Need-returns-2
 unfolding typeName
-returns-2 c = rw (c .before .before .before .before .before .enum-told2 .given .1) (c .before .before .put2 .ensures, omega (arith, c .before .before .put2 .ensures .place))
+returns-2 c =
+    let w = c .before .before in
+    rw (w .before .before .before .enum-told2 .given .1) (w .put2 .ensures, omega (arith, w .put2 .ensures .place))
 
 same-length-3 : tie.Need-same-length-3
 same-length-3 c = search needs
 
 returns-3 : tie.Need-returns-3
 unfolding typeName
-returns-3 c = rw (c .before .before .before .before .before .enum-told3 .given .1) (c .before .before .put3 .ensures, omega (arith, c .before .before .put3 .ensures .place))
+returns-3 c =
+    let w = c .before .before in
+    rw (w .before .before .before .enum-told3 .given .1) (w .put3 .ensures, omega (arith, w .put3 .ensures .place))
 
 same-length-4 : tie.Need-same-length-4
 same-length-4 c = search needs
 
 returns-4 : tie.Need-returns-4
 unfolding typeName
-returns-4 c = rw (c .before .before .before .before .before .enum-told4 .given .1) (c .before .before .put4 .ensures, omega (arith, c .before .before .put4 .ensures .place))
+returns-4 c =
+    let w = c .before .before in
+    rw (w .before .before .before .enum-told4 .given .1) (w .put4 .ensures, omega (arith, w .put4 .ensures .place))
 
 same-length-5 : tie.Need-same-length-5
 same-length-5 c = search needs
 
 returns-5 : tie.Need-returns-5
 unfolding typeName
-returns-5 c = rw (c .before .before .before .before .before .enum-told5 .given .1) (c .before .before .put5 .ensures, omega (arith, c .before .before .put5 .ensures .place))
+returns-5 c =
+    let w = c .before .before in
+    rw (w .before .before .before .enum-told5 .given .1) (w .put5 .ensures, omega (arith, w .put5 .ensures .place))
 
 same-length-6 : tie.Need-same-length-6
 same-length-6 c = search needs
 
 returns-6 : tie.Need-returns-6
 unfolding typeName
-returns-6 c = rw (c .before .before .before .before .before .enum-told6 .given .1) (c .before .before .put6 .ensures, omega (arith, c .before .before .put6 .ensures .place))
+returns-6 c =
+    let w = c .before .before in
+    rw (w .before .before .before .enum-told6 .given .1) (w .put6 .ensures, omega (arith, w .put6 .ensures .place))
 
 pub kind-spec : {M : Type 1} → statement M
 kind-spec =

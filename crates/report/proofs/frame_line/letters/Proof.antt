@@ -27,7 +27,19 @@ same-length : tie.Need-same-length
 same-length c = search needs
 
 returns : tie.Need-returns
-returns c = (rw (← (c .before .before .before .before .before .before .before .before .letter .ensures), ← (c .before .before .before .before .before .before .before .letter2 .ensures), ← (c .before .before .before .before .before .before .letter3 .ensures), ← (c .before .before .before .before .before .letter4 .ensures)) (c .before .before .put .ensures), omega (arith, c .before .before .put .ensures .place))
+returns c =
+    let w = c .before .before in
+    let base = w .before .before .before in
+    let start = base .before in (
+      rw (
+        ← (start .before .before .letter .ensures),
+        ← (start .before .letter2 .ensures),
+        ← (start .letter3 .ensures),
+        ← (base .letter4 .ensures),
+      )
+          (w .put .ensures),
+      omega (arith, w .put .ensures .place),
+    )
 
 pub letters-spec : {M : Type 1} → statement M
 letters-spec =

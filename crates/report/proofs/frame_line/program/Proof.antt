@@ -36,7 +36,9 @@ same-length-2 : tie.Need-same-length-2
 same-length-2 c = search needs
 
 returns-2 : tie.Need-returns-2
-returns-2 c = rw (c .before .before .before .before .before .enum-told .given .1) (c .before .before .put .ensures, omega (arith, c .before .before .put .ensures .place))
+returns-2 c =
+    let w = c .before .before in
+    rw (w .before .before .before .enum-told .given .1) (w .put .ensures, omega (arith, w .put .ensures .place))
 
 pub program-spec : {M : Type 1} → statement M
 program-spec =

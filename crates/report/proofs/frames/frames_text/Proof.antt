@@ -1,21 +1,32 @@
 -- `report::frames_text` meets its contract: by the lengths of the input.
 -- Assumes nothing.
 use mathlib.Core.Path.{_≡_, sym, subst}
+use mathlib.Core.List.{List}
 use Prim.Native.Nat.{ℕ, _+_, _-_}
 use lib.ListN.{length, take, drop}
 use native.Mathlib.Omega.{arith}
 use denote.Ref.{now}
 use Rattle.lent.specs.Le.{leAt}
 use Rattle.report.specs.Text.{Wrote}
-use Rattle.report.specs.Frames.{yielded, framesPrinted, framesText, framesRoom}
-use Rattle.report.proofs.Writing.{printed, not-printed, part-from}
-use Rattle.report.proofs.Listing.{short-frames, long-frames, overlong-frames, whole-frames}
+use Rattle.report.specs.Frames.{framesOrRefusal, framesPrinted, framesText, framesRoom}
+use Rattle.report.proofs.Writing.{short, long, printed, not-printed, part-from}
+use Rattle.report.proofs.Listing.{overlong-frames, whole-frames}
 use borrow.Author.Needs.{needs}
 use Rattle.report.proofs.frames.frames_text.Statement.{statement}
 use Rattle.report.proofs.frames.frames_text.Tie as tie
 
+-- the input and the output
+module _ (c : tie.Else1) where
+  abbrev input : List ℕ
+  input = now (c .before .before .before .args .input)
+
+  abbrev out : List ℕ
+  out = now (c .before .before .before .args .out)
+
 returns : tie.Need-returns
-returns c = not-printed framesRoom (framesText (now (c .before .before .before .args .input))) (now (c .before .before .before .args .out)) (c .if1 .taken)
+returns c =
+    let a = c .before .before .before .args in
+    not-printed framesRoom (framesText (now (a .input))) (now (a .out)) (c .if1 .taken)
 
 refused-requires : tie.Need-refused-requires
 refused-requires c κs = search needs
@@ -24,7 +35,11 @@ same-length : tie.Need-same-length
 same-length c = search needs
 
 returns-2 : tie.Need-returns-2
-returns-2 c = printed framesRoom (c .before .before .before .before .before .if1 .left) (rw (short-frames (now (c .before .before .before .before .before .before .before .before .args .input)) (c .before .before .before .before .if2 .taken)) (c .before .before .refused .ensures))
+unfolding framesText
+returns-2 c =
+    let p = c .before .before .before .before in
+    printed framesRoom (p .before .if1 .left)
+    (rw (short 4 (input (p .before)) _ (p .if2 .taken)) (c .before .before .refused .ensures))
 
 refused-requires-2 : tie.Need-refused-requires-2
 refused-requires-2 c κs = search needs
@@ -33,7 +48,12 @@ same-length-2 : tie.Need-same-length-2
 same-length-2 c = search needs
 
 returns-3 : tie.Need-returns-3
-returns-3 c = printed framesRoom (c .before .before .before .before .before .before .if1 .left) (rw (long-frames (now (c .before .before .before .before .before .before .before .before .before .args .input)) (c .before .before .before .before .if3 .taken)) (c .before .before .refused2 .ensures))
+unfolding framesText
+returns-3 c =
+    let p = c .before .before .before .before in
+    printed framesRoom (p .before .before .if1 .left)
+    (rw (long 4 (input (p .before .before)) _ (p .before .if2 .left) (p .if3 .taken))
+    (c .before .before .refused2 .ensures))
 
 u32-at-requires : tie.Need-u32-at-requires
 u32-at-requires c κs = search needs
@@ -52,8 +72,12 @@ same-length-3 c = search needs
 
 returns-4 : tie.Need-returns-4
 returns-4 c =
-    let o = rw (c .before .before .before .before .before .u32-at .ensures) at (c .before .before .before .before .if4 .taken) in
-    printed framesRoom (c .before .before .before .before .before .before .before .before .if1 .left) (rw (overlong-frames (now (c .before .before .before .before .before .before .before .before .before .before .before .args .input)) (c .before .before .before .before .before .before .before .if2 .left) (c .before .before .before .before .before .before .if3 .left) o) (c .before .before .refused3 .ensures))
+    let p = c .before .before .before .before in
+    let r = p .before .before in
+    let o = rw (p .before .u32-at .ensures) at (p .if4 .taken) in
+    printed framesRoom (r .before .before .if1 .left)
+    (rw (overlong-frames (input (r .before .before)) (r .before .if2 .left) (r .if3 .left) o)
+    (c .before .before .refused3 .ensures))
 
 add-middle : tie.Need-add-middle
 add-middle c = search needs
@@ -84,18 +108,22 @@ same-length-4 c = search needs
 
 returns-5 : tie.Need-returns-5
 returns-5 c =
-    let s = now (c .before .before .before .before .before .before .before .before .before .before .before .before .before .args .input) in
-    let n = c .before .before .before .before .before .before .before .u32-at .result in
-    let e : leAt 4 s 0 ≡ n = sym (c .before .before .before .before .before .before .before .u32-at .ensures) in
-    let o = rw (c .before .before .before .before .before .before .before .u32-at .ensures) at (c .before .before .before .before .before .before .if4 .left) in
+    let p = c .before .before .before .before .before .before in
+    let r = p .before .before in
+    let q = r .before .before in
+    let s = input q in
+    let n = p .before .u32-at .result in
+    let e : leAt 4 s 0 ≡ n = sym (p .before .u32-at .ensures) in
+    let o = rw (p .before .u32-at .ensures) at (p .if4 .left) in
     let m : 4 + n - 4 ≡ n = omega arith in
-    printed framesRoom (c .before .before .before .before .before .before .before .before .before .before .if1 .left)
-    (rw (whole-frames s (c .before .before .before .before .before .before .before .before .before .if2 .left) (c .before .before .before .before .before .before .before .before .if3 .left) o, e, ← (part-from (4 + n) s))
+    let w = c .before .before .tables-text in
+    printed framesRoom (q .if1 .left)
+    (rw (whole-frames s (r .before .if2 .left) (r .if3 .left) o, e, ← (part-from (4 + n) s))
     (subst
     (λ (x : ℕ).
-    Wrote (framesPrinted (yielded (take x (drop 4 s)) (take (length s - (4 + n)) (drop (4 + n) s)))) (now (c .before .before .before .before .before .before .before .before .before .before .before .before .before .args .out)) 0 (c .before .before .tables-text .result)
-    (c .before .before .tables-text .last .1 .1 .0))
-    m (c .before .before .tables-text .ensures)))
+    Wrote (framesPrinted (framesOrRefusal (take x (drop 4 s)) (take (length s - (4 + n)) (drop (4 + n) s)))) (out q) 0
+    (w .result) (w .last .1 .1 .0))
+    m (w .ensures)))
 
 pub frames-text-spec : {M : Type 1} → statement M
 frames-text-spec =

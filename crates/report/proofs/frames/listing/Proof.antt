@@ -21,15 +21,22 @@ slice-aggregate-numbered : tie.Need-slice-aggregate-numbered
 slice-aggregate-numbered c = search needs
 
 numbered-requires : tie.Need-numbered-requires
-numbered-requires c κs = omega (arith, c .before .before .before .before .frame-lines .ensures .1, c .before .before .before .before .before .before .before .before .put .ensures .place, places-most 3 (c .before .before .before .before .before .before .before .before .before .before .before .before .before .before .args .n) (omega arith))
+numbered-requires c κs =
+    let l = c .before .before .before .before in
+    let h = l .before .before .before .before in
+    let n = h .before .before .before .before .before .before .args .n in
+    omega (arith, l .frame-lines .ensures .1, h .put .ensures .place, places-most 3 n (omega arith))
 
 same-length : tie.Need-same-length
 same-length c = search needs
 
 returns : tie.Need-returns
 returns c =
-    rw (length-frames (now (c .before .before .before .before .before .before .before .before .before .before .before .before .before .before .before .before .before .args .old)) (now (c .before .before .before .before .before .before .before .before .before .before .before .before .before .before .before .before .before .args .new)) (c .before .before .before .before .before .before .before .before .before .before .before .before .before .before .before .before .before .pre .0))
-    (wrote-both (c .before .before .before .before .before .before .before .before .before .before .before .put .ensures) (wrote-both (c .before .before .before .before .before .before .before .frame-lines .ensures .0) (c .before .before .numbered .ensures)))
+    let l = c .before .before .before .before .before .before .before in
+    let h = l .before .before .before .before in
+    let st = h .before .before .before .before .before .before in
+    rw (length-frames (now (st .args .old)) (now (st .args .new)) (st .pre .0))
+    (wrote-both (h .put .ensures) (wrote-both (l .frame-lines .ensures .0) (c .before .before .numbered .ensures)))
 
 pub listing-spec : {M : Type 1} → statement M
 listing-spec =

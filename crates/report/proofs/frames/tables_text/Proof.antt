@@ -1,16 +1,34 @@
 -- `report::frames::tables_text` meets its contract: each answer about the frames, as its text.
 -- Assumes nothing.
-use mathlib.Core.Path.{sym, ap, _∙_}
+use Prim.Native.Nat.{ℕ}
+use mathlib.Core.Path.{_≡_, refl, sym, ap, _∙_}
+use mathlib.Core.List.{List}
 use native.Mathlib.Omega.{arith}
 use denote.Ref.{now}
-use Rattle.lent.specs.Paper.{number}
-use Rattle.report.specs.Frames.{yielded, toldTallied}
+use Rattle.lent.specs.Paper.{refused, number}
+use Rattle.report.specs.Frames.{framesOrRefusal, FrameCount, toldTallied}
+use Rattle.report.specs.declared.frames.Tallied.{Tallied}
+use Rattle.report.specs.declared.frames.Tallied.the-variants as tallied
 use Rattle.report.proofs.Writing.{number-small}
 use Rattle.report.proofs.Yields.{counted-all}
 use Rattle.report.proofs.Listing.{few-frames, all-frames, refused-frames}
 use borrow.Author.Needs.{needs}
 use Rattle.report.proofs.frames.tables_text.Statement.{statement}
 use Rattle.report.proofs.frames.tables_text.Tie as tie
+
+-- the tables, and the answer about their frames
+module _ (c : tie.After-tally) where
+  abbrev s : List ℕ
+  s = now (c .before .before .before .before .args .old)
+
+  abbrev t : List ℕ
+  t = now (c .before .before .before .before .args .new)
+
+  counted : (n : ℕ) → c .tally .result ≡ tallied.Frames n → FrameCount s t n
+  counted n e = counted-all s t n (sym (ap toldTallied e) ∙ c .tally .ensures)
+
+  refusal : (q : Tallied) (m : ℕ) → toldTallied q ≡ refused m → c .tally .result ≡ q → framesOrRefusal s t ≡ refused m
+  refusal q m r e = refused-frames (framesOrRefusal s t) m (sym r ∙ sym (ap toldTallied e) ∙ c .tally .ensures)
 
 tally-requires : tie.Need-tally-requires
 tally-requires c κs = search needs
@@ -20,14 +38,15 @@ enum-known-tallied c = search needs
 
 listing-requires : tie.Need-listing-requires
 listing-requires c κs =
-    let all = counted-all (now (c .before .before .before .before .before .before .before .before .args .old)) (now (c .before .before .before .before .before .before .before .before .args .new)) (c .before .before .tallied .given .0 .0) (sym (ap toldTallied (c .before .before .tallied .given .1)) ∙ c .before .before .before .before .tally .ensures) in
-    (all, (omega (arith, few-frames (now (c .before .before .before .before .before .before .before .before .args .old)) (now (c .before .before .before .before .before .before .before .before .args .new)) all), omega arith))
+    let p = c .before .before .before .before in
+    let all = counted p (c .before .before .tallied .given .0 .0) (c .before .before .tallied .given .1) in
+    (all, (omega (arith, few-frames (s p) (t p) all), omega arith))
 
 enum-known-tallied-2 : tie.Need-enum-known-tallied-2
 enum-known-tallied-2 c = search needs
 
-number-requires : tie.Need-number-requires
-number-requires c κs = search needs
+refusal-number-requires : tie.Need-refusal-number-requires
+refusal-number-requires c κs = search needs
 
 refused-requires : tie.Need-refused-requires
 refused-requires c κs = (omega (arith, number-small (c .before .before .before .tallied2 .given .0 .0)), omega arith)
@@ -43,7 +62,9 @@ same-length c = search needs
 
 returns : tie.Need-returns
 returns c =
-    rw (all-frames (now (c .before .before .before .before .before .before .before .before .before .before .before .args .old)) (now (c .before .before .before .before .before .before .before .before .before .before .before .args .new)) (counted-all (now (c .before .before .before .before .before .before .before .before .before .before .before .args .old)) (now (c .before .before .before .before .before .before .before .before .before .before .before .args .new)) (c .before .before .before .before .before .tallied .given .0 .0) (sym (ap toldTallied (c .before .before .before .before .before .tallied .given .1)) ∙ c .before .before .before .before .before .before .before .tally .ensures)))
+    let q = c .before .before .before .before .before in
+    let p = q .before .before in
+    rw (all-frames (s p) (t p) (counted p (q .tallied .given .0 .0) (q .tallied .given .1)))
     (c .before .before .listing .ensures)
 
 same-length-2 : tie.Need-same-length-2
@@ -51,8 +72,10 @@ same-length-2 c = search needs
 
 returns-2 : tie.Need-returns-2
 returns-2 c =
-    let y = yielded (now (c .before .before .before .before .before .before .before .before .before .before .before .before .args .old)) (now (c .before .before .before .before .before .before .before .before .before .before .before .before .args .new)) in
-    rw (refused-frames y (number (c .before .before .before .before .before .before .tallied2 .given .0 .0)) (sym (ap toldTallied (c .before .before .before .before .before .before .tallied2 .given .1)) ∙ c .before .before .before .before .before .before .before .before .tally .ensures), ← (c .before .before .before .before .number .ensures))
+    let q = c .before .before .before .before .before .before in
+    let why = q .tallied2 .given .0 .0 in
+    let is = refusal (q .before .before) (tallied.Refused why) (number why) refl (q .tallied2 .given .1) in
+    rw (is, ← (c .before .before .before .before .refusal-number .ensures))
     (c .before .before .refused .ensures)
 
 same-length-3 : tie.Need-same-length-3
@@ -60,8 +83,8 @@ same-length-3 c = search needs
 
 returns-3 : tie.Need-returns-3
 returns-3 c =
-    let y = yielded (now (c .before .before .before .before .before .before .before .before .before .before .args .old)) (now (c .before .before .before .before .before .before .before .before .before .before .args .new)) in
-    rw (refused-frames y 4 (sym (ap toldTallied (c .before .before .before .before .enum-told .given .1)) ∙ c .before .before .before .before .before .before .tally .ensures))
+    let q = c .before .before .before .before in
+    rw (refusal (q .before .before) tallied.TooLarge 4 refl (q .enum-told .given .1))
     (c .before .before .refused2 .ensures)
 
 pub tables-text-spec : {M : Type 1} → statement M
@@ -72,7 +95,7 @@ tables-text-spec =
     enum-known-tallied
     listing-requires
     enum-known-tallied-2
-    number-requires
+    refusal-number-requires
     refused-requires
     enum-told
     refused-requires-2

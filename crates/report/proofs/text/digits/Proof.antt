@@ -1,4 +1,5 @@
--- `report::text::digits` meets its contract: the digits that are left, written onto the output as it is, give the output as it will be.
+-- `report::text::digits` meets its contract: the digits that are left, written onto the output as it is, give the
+-- output as it will be.
 -- Assumes nothing.
 use mathlib.Core.Path.{_≡_, refl, _∙_}
 use Prim.Native.Nat.{_≤_, _<_}
@@ -13,7 +14,8 @@ use Rattle.report.proofs.text.digits.Statement.{statement}
 use Rattle.report.proofs.text.digits.Tie as tie
 
 abbrev Inv-loop : tie.InvT-loop
-Inv-loop n base width out₀ at left₀ k₀ out left k = (k ≤ width) × ((length out ≡ length out₀) × (sets out at (digits base k left) ≡ sets out₀ at (digits base width n)))
+Inv-loop n base width out₀ at left₀ k₀ out left k =
+    (k ≤ width) × ((length out ≡ length out₀) × (sets out at (digits base k left) ≡ sets out₀ at (digits base width n)))
 
 abbrev μ-loop : tie.MeasureT-loop
 μ-loop n base width out₀ at left₀ k₀ out left k = k
@@ -28,7 +30,9 @@ rem-glyph : tie.Need-rem-glyph Inv-loop μ-loop
 rem-glyph c = search needs
 
 glyph-requires : tie.Need-glyph-requires Inv-loop μ-loop
-glyph-requires c κs = let p : 0 < c .before .before .before .args .base = omega arith in omega (arith, mod-lt (c .before .loop .left) p)
+glyph-requires c κs =
+    let p : 0 < c .before .before .before .args .base = omega arith in
+    omega (arith, mod-lt (c .before .loop .left) p)
 
 add-out : tie.Need-add-out Inv-loop μ-loop
 add-out c = omega arith
@@ -46,7 +50,8 @@ loop-again : tie.Need-loop-again Inv-loop μ-loop
 loop-again c =
     let l = c .before .before .loop in
     let a = c .before .before .before .before .args in
-    (omega arith, (simp length-set (l .inv .1 .0), rw (c .glyph .ensures) (digit-less (a .base) (l .k) (l .left) (l .out) (a .at) (omega arith) ∙ l .inv .1 .1)))
+    let less = digit-less (a .base) (l .k) (l .left) (l .out) (a .at) (omega arith) in
+    (omega arith, (simp length-set (l .inv .1 .0), rw (c .glyph .ensures) (less ∙ l .inv .1 .1)))
 
 add-result : tie.Need-add-result Inv-loop μ-loop
 add-result c = omega arith
@@ -59,7 +64,8 @@ unfolding digits
 returns c =
     let a = c .before .before .before .args in
     let e : c .before .loop .k ≡ 0 = omega arith in
-    record { place = rw (length-digits (a .base) (a .width) (a .n)); bytes = rw e at (c .before .loop .inv .1 .1); room = omega (arith, length-digits (a .base) (a .width) (a .n)) }
+    let l = length-digits (a .base) (a .width) (a .n) in
+    record { place = rw l; bytes = rw e at (c .before .loop .inv .1 .1); room = omega (arith, l) }
 
 pub digits-spec : {M : Type 1} → statement M
 digits-spec =

@@ -1,5 +1,8 @@
 -- `report::text::glyph` meets its contract: by the test.
 -- Assumes nothing.
+use mathlib.Core.Path.{_≡_, refl}
+use Prim.Native.Char.{code}
+use native.Mathlib.Omega.{arith}
 use borrow.Author.Tests.{lt-ltb, le-ltb}
 use Rattle.report.specs.Text.{glyph}
 use borrow.Author.Needs.{needs}
@@ -24,7 +27,9 @@ returns c = rw (lt-ltb (c .before .args .d) 10 (c .if1 .taken))
 
 returns-2 : tie.Need-returns-2
 unfolding glyph
-returns-2 c = rw (le-ltb (c .before .args .d) 10 (c .if1 .left))
+returns-2 c =
+    let letter : code "A" ≡ 65 = refl in
+    rw (le-ltb (c .before .args .d) 10 (c .if1 .left)) (omega arith)
 
 pub glyph-spec : {M : Type 1} → statement M
 glyph-spec =

@@ -10,13 +10,19 @@ digits-requires : tie.Need-digits-requires
 digits-requires c κs = search needs
 
 put-requires : tie.Need-put-requires
-put-requires c κs = omega (arith, length-digits 16 (c .before .before .before .before .before .before .before .args .width) (c .before .before .before .before .before .before .before .args .n))
+put-requires c κs =
+    let a = c .before .before .before .before .before .before .before .args in
+    omega (arith, length-digits 16 (a .width) (a .n))
 
 same-length : tie.Need-same-length
 same-length c = search needs
 
 returns : tie.Need-returns
-returns c = (wrote-both (c .before .before .before .before .before .before .digits .ensures) (c .before .before .put .ensures), omega (arith, length-digits 16 (c .before .before .before .before .before .before .before .before .before .before .args .width) (c .before .before .before .before .before .before .before .before .before .before .args .n)))
+returns c =
+    let d = c .before .before .before .before .before .before in
+    let a = d .before .before .before .before .args in
+    let l = length-digits 16 (a .width) (a .n) in
+    (wrote-both (d .digits .ensures) (c .before .before .put .ensures), omega (arith, l))
 
 pub hex-spec : {M : Type 1} → statement M
 hex-spec = tie.close (tie.spec digits-requires put-requires same-length returns)

@@ -19,13 +19,21 @@ slice-aggregate-put : tie.Need-slice-aggregate-put
 slice-aggregate-put c = search needs
 
 put-requires-2 : tie.Need-put-requires-2
-put-requires-2 c κs = omega (arith, length-digits 10 (c .before .before .before .before .before .before .places .result) (c .before .before .before .before .before .before .before .before .before .before .before .before .before .args .n))
+put-requires-2 c κs =
+    let p = c .before .before .before .before .before .before in
+    let a = p .before .before .before .before .before .before .before .args in
+    omega (arith, length-digits 10 (p .places .result) (a .n))
 
 same-length : tie.Need-same-length
 same-length c = search needs
 
 returns : tie.Need-returns
-returns c = rw (← (c .before .before .before .before .before .before .before .before .before .places .ensures)) (wrote-both (c .before .before .before .before .before .before .before .before .before .before .before .before .put .ensures) (wrote-both (c .before .before .before .before .before .before .before .digits .ensures) (c .before .before .put2 .ensures)))
+returns c =
+    let d = c .before .before .before .before .before .before .before in
+    let p = d .before .before in
+    rw (← (p .places .ensures))
+    (wrote-both (p .before .before .before .put .ensures)
+    (wrote-both (d .digits .ensures) (c .before .before .put2 .ensures)))
 
 pub numbered-spec : {M : Type 1} → statement M
 numbered-spec =

@@ -1,4 +1,5 @@
--- `report::text::put` meets its contract: the bytes that are left, written onto the output as it is, give the output as it will be.
+-- `report::text::put` meets its contract: the bytes that are left, written onto the output as it is, give the output as
+-- it will be.
 -- Assumes nothing.
 use native.Mathlib.Nat.{add-zero}
 use mathlib.Core.Path.{_≡_, refl, _∙_}
@@ -12,7 +13,8 @@ use Rattle.report.proofs.text.put.Statement.{statement}
 use Rattle.report.proofs.text.put.Tie as tie
 
 abbrev Inv-loop : tie.InvT-loop
-Inv-loop word out₀ at i₀ out i = (i ≤ length word) × ((length out ≡ length out₀) × (sets out (at + i) (drop i word) ≡ sets out₀ at word))
+Inv-loop word out₀ at i₀ out i =
+    (i ≤ length word) × ((length out ≡ length out₀) × (sets out (at + i) (drop i word) ≡ sets out₀ at word))
 
 abbrev μ-loop : tie.MeasureT-loop
 μ-loop word out₀ at i₀ out i = length word - i
@@ -39,7 +41,8 @@ loop-again : tie.Need-loop-again Inv-loop μ-loop
 loop-again c =
     let l = c .before .before .loop in
     let a = c .before .before .before .args in
-    (omega arith, (simp length-set (l .inv .1 .0), byte-less (now (a .word)) (l .out) (a .at) (l .i) (omega arith) ∙ l .inv .1 .1))
+    let less = byte-less (now (a .word)) (l .out) (a .at) (l .i) (omega arith) in
+    (omega arith, (simp length-set (l .inv .1 .0), less ∙ l .inv .1 .1))
 
 add-result : tie.Need-add-result Inv-loop μ-loop
 add-result c = omega arith
@@ -51,7 +54,8 @@ returns : tie.Need-returns Inv-loop μ-loop
 returns c =
     let a = c .before .before .args in
     let e : c .before .loop .i ≡ length (now (a .word)) = omega arith in
-    record { place = rw e; bytes = rw (e, drop-length (now (a .word))) at (c .before .loop .inv .1 .1); room = omega arith }
+    let bytes = rw (e, drop-length (now (a .word))) at (c .before .loop .inv .1 .1) in
+    record { place = rw e; bytes = bytes; room = omega arith }
 
 pub put-spec : {M : Type 1} → statement M
 put-spec =

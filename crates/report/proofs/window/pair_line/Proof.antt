@@ -22,7 +22,9 @@ same-length : tie.Need-same-length
 same-length c = search needs
 
 returns : tie.Need-returns
-returns c = simp append-assoc at (wrote-both (c .before .before .before .before .before .before .before .hex .ensures .0) (c .before .before .hex2 .ensures .0))
+returns c =
+    let y = c .before .before in
+    simp append-assoc at (wrote-both (y .before .before .before .before .before .hex .ensures .0) (y .hex2 .ensures .0))
 
 pub pair-line-spec : {M : Type 1} → statement M
 pair-line-spec =

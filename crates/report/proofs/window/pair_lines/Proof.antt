@@ -1,10 +1,11 @@
--- `report::window::pair_lines` meets its contract: the lines that are left, written onto the output as it is, give the output as it will be.
+-- `report::window::pair_lines` meets its contract: the lines that are left, written onto the output as it is, give the
+-- output as it will be.
 -- Assumes nothing.
-use Prim.Native.Nat.{_+_, _-_, _*_, _≤_}
+use Prim.Native.Nat.{ℕ, _+_, _-_, _*_, _≤_, _<_}
 use mathlib.Core.Path.{_≡_}
-use mathlib.Core.List.{[], _++_}
+use mathlib.Core.List.{List, _++_}
 use native.Mathlib.Omega.{arith}
-use lib.ListN.{drop, getD, length-drop}
+use lib.ListN.{length, drop, getD, length-drop}
 use denote.Ref.{now}
 use Rattle.report.specs.Window.{pairLine, pairLines}
 use Rattle.report.proofs.Writing.{Left, left-first, left-last, left-room, left-more}
@@ -18,8 +19,30 @@ Inv-loop pairs out₀ at n i₀ k₀ out i k = (i ≤ n) × Left (pairLines pair
 abbrev μ-loop : tie.MeasureT-loop
 μ-loop pairs out₀ at n i₀ k₀ out i k = n - i
 
+-- in the loop: the pairs, the numbers of the next one, and the lines after its line
+module _ (c : tie.In-loop Inv-loop μ-loop) where
+  abbrev s : List ℕ
+  s = now (c .before .before .before .before .args .pairs)
+
+  abbrev i : ℕ
+  i = c .before .loop .i
+
+  abbrev x : ℕ
+  x = getD s (2 * i) 0
+
+  abbrev y : ℕ
+  y = getD s (2 * i + 1) 0
+
+  abbrev rest : List ℕ
+  rest = pairLines (drop (2 * (i + 1)) s)
+
+  next : 2 * i + 1 < length s → pairLines (drop (2 * i) s) ≡ pairLine x y ++ rest
+  next h = pair-less s i h
+
 loop-holds : tie.Need-loop-holds Inv-loop μ-loop
-loop-holds c = (omega arith, left-first (pairLines (now (c .before .before .args .pairs))) (now (c .before .before .args .out)) (c .before .before .args .at))
+loop-holds c =
+    let a = c .before .before .args in
+    (omega arith, left-first (pairLines (now (a .pairs))) (now (a .out)) (a .at))
 
 mul-pair-line : tie.Need-mul-pair-line Inv-loop μ-loop
 mul-pair-line c = omega arith
@@ -44,12 +67,11 @@ shared-slice-read-pair-line-2 c = omega arith
 
 pair-line-requires : tie.Need-pair-line-requires Inv-loop μ-loop
 pair-line-requires c κs =
-    let l = c .before .before .before .before .loop in
-    let s = now (c .before .before .before .before .before .before .before .args .pairs) in
-    let x = getD s (2 * l .i) 0 in
-    let y = getD s (2 * l .i + 1) 0 in
-    let e : pairLines (drop (2 * l .i) s) ≡ pairLine x y ++ pairLines (drop (2 * (l .i + 1)) s) = pair-less s (l .i) (omega arith) in
-    omega (arith, length-pair x y, left-room (pairLine x y) (pairLines (drop (2 * (l .i + 1)) s)) (l .inv .1) e (c .before .before .before .before .before .before .before .pre))
+    let p = c .before .before .before in
+    let start = p .before .before .before .before in
+    let room
+    = left-room (pairLine (x p) (y p)) (rest p) (p .before .loop .inv .1) (next p (omega arith)) (start .pre) in
+    omega (arith, length-pair (x p) (y p), room)
 
 add-i : tie.Need-add-i Inv-loop μ-loop
 add-i c = omega arith
@@ -59,12 +81,9 @@ loop-less c = omega arith
 
 loop-again : tie.Need-loop-again Inv-loop μ-loop
 loop-again c =
-    let l = c .before .before .before .before .before .before .before .loop in
-    let s = now (c .before .before .before .before .before .before .before .before .before .before .args .pairs) in
-    let x = getD s (2 * l .i) 0 in
-    let y = getD s (2 * l .i + 1) 0 in
-    let e : pairLines (drop (2 * l .i) s) ≡ pairLine x y ++ pairLines (drop (2 * (l .i + 1)) s) = pair-less s (l .i) (omega arith) in
-    (omega arith, left-more (pairLine x y) (pairLines (drop (2 * (l .i + 1)) s)) (l .inv .1) e (c .before .before .pair-line .ensures))
+    let p = c .before .before .before .before .before .before in
+    let line = c .before .before .pair-line .ensures in
+    (omega arith, left-more (pairLine (x p) (y p)) (rest p) (p .before .loop .inv .1) (next p (omega arith)) line)
 
 same-length : tie.Need-same-length Inv-loop μ-loop
 same-length c = c .before .loop .inv .1 .kept
@@ -73,8 +92,8 @@ returns : tie.Need-returns Inv-loop μ-loop
 returns c =
     let l = c .before .loop in
     let s = now (c .before .before .before .before .args .pairs) in
-    let e : pairLines (drop (2 * l .i) s) ≡ [] = pairs-none (drop (2 * l .i) s) (omega (arith, length-drop (2 * l .i) s)) in
-    let w = rw e at (l .inv .1) in
+    let e : length (drop (2 * l .i) s) < 2 = omega (arith, length-drop (2 * l .i) s) in
+    let w = rw (pairs-none (drop (2 * l .i) s) e) at (l .inv .1) in
     left-last (omega (arith, w .places-left)) w
 
 pub pair-lines-spec : {M : Type 1} → statement M

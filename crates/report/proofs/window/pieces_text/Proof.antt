@@ -15,22 +15,32 @@ mul-last : tie.Need-mul-last
 mul-last c = search needs
 
 slice-aggregate-pair-lines : tie.Need-slice-aggregate-pair-lines
-slice-aggregate-pair-lines c = sym (length-take-le (2 * c .before .before .before .args .n) (now (c .before .before .before .args .pairs)) (c .before .before .before .pre .0))
+slice-aggregate-pair-lines c =
+    let st = c .before .before .before in
+    sym (length-take-le (2 * st .args .n) (now (st .args .pairs)) (st .pre .0))
 
 pair-lines-requires : tie.Need-pair-lines-requires
-pair-lines-requires c κs = omega (arith, taken-pairs (now (c .before .before .before .before .args .pairs)) (c .before .before .before .before .args .n) (c .before .before .before .before .pre .0))
+pair-lines-requires c κs =
+    let st = c .before .before .before .before in
+    omega (arith, taken-pairs (now (st .args .pairs)) (st .args .n) (st .pre .0))
 
 slice-aggregate-numbered : tie.Need-slice-aggregate-numbered
 slice-aggregate-numbered c = search needs
 
 numbered-requires : tie.Need-numbered-requires
-numbered-requires c κs = omega (arith, taken-pairs (now (c .before .before .before .before .before .before .before .before .before .args .pairs)) (c .before .before .before .before .before .before .before .before .before .args .n) (c .before .before .before .before .before .before .before .before .before .pre .0), places-most 3 (c .before .before .before .before .before .before .before .before .before .args .n) (omega arith))
+numbered-requires c κs =
+    let l = c .before .before .before .before in
+    let st = l .before .before .before .before .before in
+    let n = st .args .n in
+    omega (arith, taken-pairs (now (st .args .pairs)) n (st .pre .0), places-most 3 n (omega arith))
 
 same-length : tie.Need-same-length
 same-length c = search needs
 
 returns : tie.Need-returns
-returns c = wrote-both (c .before .before .before .before .before .before .before .pair-lines .ensures) (c .before .before .numbered .ensures)
+returns c =
+    let counted = c .before .before in
+    wrote-both (counted .before .before .before .before .before .pair-lines .ensures) (counted .numbered .ensures)
 
 pub pieces-text-spec : {M : Type 1} → statement M
 pieces-text-spec =

@@ -1,72 +1,67 @@
 -- `framedata::FrameCursor::step` meets its contract: 1 and 2 of either table, or what is next at the cursor.
 -- Assumes nothing.
 use mathlib.Core.Path.{_≡_, refl, sym, ap, _∙_}
-use mathlib.Core.Option.{Option, none, some}
+use mathlib.Core.Option.{some}
 use mathlib.Core.Bool.{true}
 use mathlib.Core.List.{List}
 use Prim.Native.Nat.{ℕ, _<_, _/_}
 use lib.ListN.{length}
 use native.Mathlib.Omega.{arith}
 use denote.Ref.{now}
-use Rattle.lent.specs.Paper.{refused, number, toldChecked}
 use Rattle.lent.specs.Table.{ifPresent}
-use Rattle.framedata.specs.Records.{oldRecord, newRecord, oldAt, newAt}
+use Rattle.framedata.specs.Records.{OldFrame, NewFrame, oldRecord, newRecord, oldAt, newAt}
 use Rattle.framedata.specs.Frame.{toldDecoded}
-use Rattle.framedata.specs.Tables.{shapeOfBoth}
-use Rattle.framedata.specs.Step.{Pick, Stepped, pick, handed, yielded, stepSpec, toldNext}
+use Rattle.framedata.specs.Step.{Pick, Stepped, pick, stepTo, stepSpec, toldNext}
 use Rattle.framedata.specs.declared.cursor.FrameCursor.{FrameCursor}
 use Rattle.framedata.specs.declared.cursor.Next.{Next}
 use Rattle.framedata.specs.declared.cursor.Next.the-variants as next
-use Rattle.framedata.proofs.Framing.{of-both}
+use Rattle.framedata.proofs.Framing.{bad, good}
 use Rattle.framedata.proofs.Picking.{takesOld, takesNew, old-inside, new-inside}
 use borrow.Author.Needs.{needs}
 use Rattle.framedata.proofs.cursor.FrameCursor.step.Statement.{statement}
 use Rattle.framedata.proofs.cursor.FrameCursor.step.Tie as tie
 
--- an answer over the tables as they are held is one over the tables behind their marks
-kept : (c : tie.After-shapes) → stepSpec (now (c .before .before .if-present .result)) (now (c .before .if-present2 .result)) (c .before .before .before .before .before .args .self) ≡ stepSpec (ifPresent (c .before .before .before .before .before .args .old-present) (now (c .before .before .before .before .before .args .old))) (ifPresent (c .before .before .before .before .before .args .new-present) (now (c .before .before .before .before .before .args .new))) (c .before .before .before .before .before .args .self)
-kept c = of-both (λ (s t : List ℕ). stepSpec s t (c .before .before .before .before .before .args .self)) (c .before .before .if-present .ensures) (c .before .if-present2 .ensures)
+-- the cursor, the tables as they are held, and which record is next there, as the code found it
+module _ (c : tie.After-lesser) where
+  abbrev tested : tie.After-shapes
+  tested = c .before .before .before
 
--- the cursor, the tables as they are held, and the step that is asked for
-abbrev at : tie.After-lesser → FrameCursor
-at c = c .before .before .before .before .before .before .before .before .args .self
+  abbrev at : FrameCursor
+  at = tested .before .before .before .before .before .args .self
 
-abbrev olds : tie.After-lesser → List ℕ
-olds c = now (c .before .before .before .before .before .if-present .result)
+  abbrev olds : List ℕ
+  olds = now (tested .before .before .if-present .result)
 
-abbrev news : tie.After-lesser → List ℕ
-news c = now (c .before .before .before .before .if-present2 .result)
+  abbrev news : List ℕ
+  news = now (tested .before .if-present2 .result)
 
-abbrev asked : tie.After-lesser → Stepped
-asked c =
-    let a = c .before .before .before .before .before .before .before .before .args in
-    stepSpec (ifPresent (a .old-present) (now (a .old))) (ifPresent (a .new-present) (now (a .new))) (a .self)
+  abbrev o : OldFrame
+  o = oldRecord olds (at .«old_index»)
 
--- which record is next, as the code found it
-abbrev found : tie.After-lesser → Next → Option Pick
-found c = toldNext (oldRecord (olds c) (at c .«old_index»)) (newRecord (news c) (at c .«new_index»))
+  abbrev n : NewFrame
+  n = newRecord news (at .«new_index»)
 
--- what is next at the cursor is what is found
-next-is : (c : tie.After-lesser) (q : Next) → c .lesser .result ≡ q →
-    pick (oldAt (olds c) (at c .«old_index»)) (newAt (news c) (at c .«new_index»)) ≡ found c q
-next-is c q e = sym (c .lesser .ensures) ∙ ap (found c) e
+  next-is : (q : Next) → c .lesser .result ≡ q
+      → pick (oldAt olds (at .«old_index»)) (newAt news (at .«new_index»)) ≡ toldNext o n q
+  next-is q e = sym (c .lesser .ensures) ∙ ap (toldNext o n) e
 
--- past the test of both shapes, what is next decides
-decided : (c : tie.After-lesser) (q : Next) → c .lesser .result ≡ q → yielded (at c) (found c q) ≡ asked c
-unfolding stepSpec
-decided c q e =
-    let good : none ≡ shapeOfBoth (olds c) (news c) = sym (ap toldChecked (c .before .enum-told .given .1)) ∙ c .before .before .before .shapes .ensures in
-    let d : yielded (at c) (found c q) ≡ stepSpec (olds c) (news c) (at c) = rw (← good, next-is c q e) in
-    d ∙ kept (c .before .before .before)
+  abbrev asked : Stepped
+  asked =
+      let a = tested .before .before .before .before .before .args in
+      stepSpec (ifPresent (a .old-present) (now (a .old))) (ifPresent (a .new-present) (now (a .new))) (a .self)
 
--- a record that is next lies inside its table
-old-here : (c : tie.After-lesser) (q : Next) (p : Pick) → c .lesser .result ≡ q → found c q ≡ some p → takesOld p ≡ true → at c .«old_index» < length (olds c) / 16
-old-here c q p e f takes =
-    old-inside (oldRecord (olds c)) (length (olds c) / 16) (at c .«old_index») (newRecord (news c)) (length (news c) / 32) (at c .«new_index») p (next-is c q e ∙ f) takes
+  -- past the test of both shapes, what is next decides
+  decided : (q : Next) → c .lesser .result ≡ q → stepTo at (toldNext o n q) ≡ stepSpec olds news at
+  unfolding stepSpec
+  decided q e = rw (good (tested .shapes .ensures) (c .before .enum-told .given .1), next-is q e)
 
-new-here : (c : tie.After-lesser) (q : Next) (p : Pick) → c .lesser .result ≡ q → found c q ≡ some p → takesNew p ≡ true → at c .«new_index» < length (news c) / 32
-new-here c q p e f takes =
-    new-inside (oldRecord (olds c)) (length (olds c) / 16) (at c .«old_index») (newRecord (news c)) (length (news c) / 32) (at c .«new_index») p (next-is c q e ∙ f) takes
+  -- a record that is next lies inside its table
+  module _ (q : Next) (p : Pick) (e : c .lesser .result ≡ q) (f : toldNext o n q ≡ some p) where
+    old-here : takesOld p ≡ true → at .«old_index» < length olds / 16
+    old-here = old-inside olds news (at .«old_index») (at .«new_index») p (next-is q e ∙ f)
+
+    new-here : takesNew p ≡ true → at .«new_index» < length news / 32
+    new-here = new-inside olds news (at .«old_index») (at .«new_index») p (next-is q e ∙ f)
 
 if-present-requires : tie.Need-if-present-requires
 if-present-requires c κs = search needs
@@ -83,10 +78,10 @@ enum-known-shaped c = search needs
 returns : tie.Need-returns
 unfolding stepSpec
 returns c =
-    let e : some (number (c .before .shaped .given .0 .0)) ≡ shapeOfBoth (now (c .before .before .before .before .before .if-present .result)) (now (c .before .before .before .before .if-present2 .result))
-    = sym (ap toldChecked (c .before .shaped .given .1)) ∙ c .before .before .before .shapes .ensures in
-    let d : handed (c .before .before .before .before .before .before .before .before .args .self) (c .before .before .before .before .before .before .before .before .args .self) (refused (number (c .before .shaped .given .0 .0))) ≡ stepSpec (now (c .before .before .before .before .before .if-present .result)) (now (c .before .before .before .before .if-present2 .result)) (c .before .before .before .before .before .before .before .before .args .self) = rw (← e) in
-    d ∙ kept (c .before .before .before)
+    let p = c .before .before .before in
+    let q = p .before .before in
+    let r = bad (p .shapes .ensures) (c .before .shaped .given .1) in
+    rw (← (q .if-present .ensures), ← (p .before .if-present2 .ensures), r)
 
 enum-told : tie.Need-enum-told
 enum-told c = search needs
@@ -107,7 +102,9 @@ enum-known-decoded : tie.Need-enum-known-decoded
 enum-known-decoded c = search needs
 
 add-self : tie.Need-add-self
-add-self c = omega (arith, old-here (c .before .before .before .before .before .before) next.Old _ (c .before .before .before .before .enum-told3 .given .1) refl refl)
+add-self c =
+    let p = c .before .before .before .before in
+    omega (arith, old-here (p .before .before) next.Old _ (p .enum-told3 .given .1) refl refl)
 
 enum-told-4 : tie.Need-enum-told-4
 enum-told-4 c = search needs
@@ -119,7 +116,9 @@ new-frame-requires : tie.Need-new-frame-requires
 new-frame-requires c κs = new-here (c .before .before) next.New _ (c .enum-told5 .given .1) refl refl
 
 add-self-2 : tie.Need-add-self-2
-add-self-2 c = omega (arith, new-here (c .before .before .before) next.New _ (c .before .enum-told5 .given .1) refl refl)
+add-self-2 c =
+    let p = c .before in
+    omega (arith, new-here (p .before .before) next.New _ (p .enum-told5 .given .1) refl refl)
 
 enum-told-6 : tie.Need-enum-told-6
 enum-told-6 c = search needs
@@ -128,29 +127,43 @@ new-frame-requires-2 : tie.Need-new-frame-requires-2
 new-frame-requires-2 c κs = new-here (c .before .before) next.Both _ (c .enum-told6 .given .1) refl refl
 
 add-self-3 : tie.Need-add-self-3
-add-self-3 c = omega (arith, old-here (c .before .before .before) next.Both _ (c .before .enum-told6 .given .1) refl refl)
+add-self-3 c =
+    let p = c .before in
+    omega (arith, old-here (p .before .before) next.Both _ (p .enum-told6 .given .1) refl refl)
 
 add-self-4 : tie.Need-add-self-4
-add-self-4 c = omega (arith, new-here (c .before .before .before) next.Both _ (c .before .enum-told6 .given .1) refl refl)
+add-self-4 c =
+    let p = c .before in
+    omega (arith, new-here (p .before .before) next.Both _ (p .enum-told6 .given .1) refl refl)
+
+-- an answer over the tables as they are held is one over the tables behind their marks
+held : (c : tie.After-lesser) → {x : Stepped} → x ≡ stepSpec (olds c) (news c) (at c) → x ≡ asked c
+held c e = rw (← (tested c .before .before .if-present .ensures), ← (tested c .before .if-present2 .ensures)) e
 
 returns-2 : tie.Need-returns-2
-returns-2 c = decided (c .before .before) next.End (c .enum-told2 .given .1)
+returns-2 c = held (c .before .before) (decided (c .before .before) next.End (c .enum-told2 .given .1))
 
 returns-3 : tie.Need-returns-3
 returns-3 c =
+    let p = c .before .before .before .before .before .before in
     let d = ap toldDecoded (sym (c .before .decoded .given .1)) ∙ c .before .before .before .old-frame .ensures in
-    rw (← d) at (decided (c .before .before .before .before .before .before) next.Old (c .before .before .before .before .enum-told3 .given .1))
+    held p (rw (← d) at (decided p next.Old (c .before .before .before .before .enum-told3 .given .1)))
 
 returns-4 : tie.Need-returns-4
 returns-4 c =
+    let p = c .before .before .before .before .before in
     let d = ap toldDecoded (sym (c .enum-told4 .given .1)) ∙ c .before .before .old-frame .ensures in
-    rw (← d) at (decided (c .before .before .before .before .before) next.Old (c .before .before .before .enum-told3 .given .1))
+    held p (rw (← d) at (decided p next.Old (c .before .before .before .enum-told3 .given .1)))
 
 returns-5 : tie.Need-returns-5
-returns-5 c = rw (c .new-frame .ensures) (decided (c .before .before .before) next.New (c .before .enum-told5 .given .1))
+returns-5 c =
+    let p = c .before .before .before in
+    held p (rw (c .new-frame .ensures) (decided p next.New (c .before .enum-told5 .given .1)))
 
 returns-6 : tie.Need-returns-6
-returns-6 c = rw (c .new-frame2 .ensures) (decided (c .before .before .before) next.Both (c .before .enum-told6 .given .1))
+returns-6 c =
+    let p = c .before .before .before in
+    held p (rw (c .new-frame2 .ensures) (decided p next.Both (c .before .enum-told6 .given .1)))
 
 pub step-spec : {M : Type 1} → statement M
 step-spec =
