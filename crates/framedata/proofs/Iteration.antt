@@ -142,7 +142,7 @@ module _ (s t : List ℕ) where
       → YieldsThen s t c [] x
   unfolding cursorAfter
   yields-none c x e =
-      record { told = λ k. rw (zero-add k) (again c x e k .0); stays = λ k. rw (zero-add k) (again c x e k .1) }
+      record { gives = λ k. rw (zero-add k) (again c x e k .0); stays = λ k. rw (zero-add k) (again c x e k .1) }
 
   yields-one : (c d : FrameCursor) (p : Pick) (l : List Pick) (x : Told Frame)
       → stepSpec s t c ≡ record { answer = value (frame p); cursor = d } → YieldsThen s t d l x
@@ -152,7 +152,7 @@ module _ (s t : List ℕ) where
       let on : (k : ℕ) → cursorAfter (suc k) s t c ≡ cursorAfter k s t d
       = λ k. ap (λ (r : Stepped). cursorAfter k s t (r .cursor)) e in
       record {
-        told = λ k. rw (suc-add (length l) k, e) (ap (λ (r : List (Told Frame)). value (frame p) ∷ r) (y .told k));
+        gives = λ k. rw (suc-add (length l) k, e) (ap (λ (r : List (Told Frame)). value (frame p) ∷ r) (y .gives k));
         stays = λ k. rw (suc-add (length l) k) (on (length l + k) ∙ y .stays k ∙ sym (on (length l)));
       }
 

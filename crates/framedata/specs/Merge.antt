@@ -63,7 +63,7 @@ eachFrame l = map (λ (p : Pick). value (frame p)) l
 -- From the cursor c the steps yield the frames of l, one after the other. Every further step answers x and hands back
 -- the cursor that it was given.
 pub record YieldsThen (s t : List ℕ) (c : FrameCursor) (l : List Pick) (x : Told Frame) : Type 0 where
-  pub told : (k : ℕ) → answers (length l + k) s t c ≡ eachFrame l ++ replicate k x
+  pub gives : (k : ℕ) → answers (length l + k) s t c ≡ eachFrame l ++ replicate k x
   pub stays : (k : ℕ) → cursorAfter (length l + k) s t c ≡ cursorAfter (length l) s t c
 
 -- the code starts of the frames that are yielded

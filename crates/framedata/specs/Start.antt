@@ -38,6 +38,7 @@ pub record Entered (w : ℕ) (s : List ℕ) (a k : ℕ) : Type 0 where
   pub there : k < length s / w → (covers a (spanAt w s k) ≡ true) ⊎ (a < spanAt w s k .codeStart)
   pub later : 0 < k → covers a (spanAt w s (k - 1)) ≡ true → (k < length s / w) × (spanAt w s k .codeStart ≤ a)
 
+-- the refusals of both tables, or the place in each
 unfoldable pub startSpec : ℕ → List ℕ → List ℕ → Told FrameCursor
 startSpec a old new =
     unless (faultOfBoth old new)
