@@ -9,7 +9,7 @@ use Rattle.lent.specs.Table.{listed, shapeFault}
 use Rattle.lent.specs.Order.{risingAfter, rising, tableFault}
 use Rattle.omap.specs.Records.{records}
 use Rattle.omap.specs.Window.{nextOf, pieceOf, pieces}
-use Rattle.omap.specs.Output.{besideStart, fits, allFit, roomFor, windowSpec}
+use Rattle.omap.specs.Output.{besideStart, fits, allFit, sumFault, windowFault, roomFor, windowSpec}
 use Rattle.report.specs.Text.{ascii, line, glyph, digits, placesIn, lines}
 use Rattle.report.specs.Window.{tableText, windowText}
 
@@ -33,6 +33,6 @@ printed =
     ++ line (ascii "pieces 3")
 
 pub prints : windowText example ≡ printed
-unfolding leAt listed shapeFault risingAfter rising tableFault records nextOf pieceOf put pieces besideStart fits allFit
+unfolding leAt listed shapeFault risingAfter rising tableFault records nextOf pieceOf put pieces besideStart fits allFit sumFault windowFault
     roomFor windowSpec glyph digits placesIn lines tableText windowText
 prints = refl

@@ -10,13 +10,12 @@ use lib.ListN.{length, drop, getD, take, length-append}
 use lib.Seq.{drop-cons, take-at, length-take-le}
 use lib.Dec.{leb}
 use Rattle.lent.specs.Words.{put}
-use Rattle.lent.specs.Order.{omapFault}
 use borrow.Author.Tests.{le-leb}
 use Rattle.lent.proofs.Place.{length-listed}
 use Rattle.omap.specs.Records.{Entry, entryAt, records}
 use Rattle.omap.specs.Window.{nextOf, pieceOf, pieces, windowPieces}
 use Rattle.omap.specs.declared.walk.Piece.{Piece}
-use Rattle.omap.specs.Output.{besideStart, allFit, flat, Window, counted, refusedAs, refusedFor, roomFor, unlessFault}
+use Rattle.omap.specs.Output.{besideStart, flat, windowFault, Window, counted, refusedAs, refusedFor, roomFor, unlessFault}
 use Rattle.omap.specs.Output.{windowSpec, windowOut}
 use Rattle.omap.proofs.Outputs.{length-flat}
 use Rattle.report.specs.Text.{ascii, digits, lines, numbered}
@@ -80,22 +79,15 @@ unfolding pieces
 pieces-few a b [] = omega arith
 pieces-few a b (x ∷ l) = omega (arith, pieces-few a b l, put-few (pieceOf a b x (nextOf l)) (pieces a b l))
 
--- a counted answer counts the pieces
-count-room : (l : List Piece) (fits room : Bool) (n : ℕ)
-    → counted n ≡ cond fits (cond room (counted (length l)) (refusedFor 5 (length l))) (refusedAs 4) → n ≡ length l
-count-room l true true n e = cc
-count-room l true false n e = cc
-count-room l false room n e = cc
+count-fault : (o : Option ℕ) (fits : Bool) (m n : ℕ)
+    → counted n ≡ unlessFault o (cond fits (counted m) (refusedFor 5 m)) → n ≡ m
+count-fault none true m n e = cc
+count-fault none false m n e = cc
+count-fault (some k) fits m n e = cc
 
-count-fault : (o : Option ℕ) (w : Window) (n : ℕ) → counted n ≡ unlessFault o w → counted n ≡ w
-count-fault none w n e = e
-count-fault (some k) w n e = cc
-
-never-for : (o : Option ℕ) (fits : Bool) (n k : ℕ)
-    → unlessFault o (cond fits (counted n) (refusedAs 4)) ≡ refusedFor 5 k → ⊥
-never-for none true n k e = let z : _≡_ {A = ℕ} 0 1 = cc in omega arith
-never-for none false n k e = let z : _≡_ {A = ℕ} 0 1 = cc in omega arith
-never-for (some m) fits n k e = let z : _≡_ {A = ℕ} 0 1 = cc in omega arith
+never-for : (o : Option ℕ) (n k : ℕ) → unlessFault o (counted n) ≡ refusedFor 5 k → ⊥
+never-for none n k e = let z : _≡_ {A = ℕ} 0 1 = cc in omega arith
+never-for (some m) n k e = let z : _≡_ {A = ℕ} 0 1 = cc in omega arith
 
 module _ (s : List ℕ) (a b : ℕ) where
   -- no more pieces than records
@@ -107,8 +99,7 @@ module _ (s : List ℕ) (a b : ℕ) where
   unfolding windowSpec roomFor
   counted-all room n e =
       let l = windowPieces true s a b in
-      count-room l (allFit l) (leb (length l) room) n
-      (count-fault (omapFault s) (roomFor l room) n e)
+      count-fault (windowFault true s a b) (leb (length l) room) (length l) n e
 
   module _ (room : ℕ) (enough : length s / 8 ≤ room) where
     -- with room for as many entries as there are records, 5 is never met
@@ -122,7 +113,7 @@ module _ (s : List ℕ) (a b : ℕ) where
     unfolding windowSpec roomFor
     not-short k e =
         let l = windowPieces true s a b in
-        never-for (omapFault s) (allFit l) (length l) k (rw (le-leb (length l) room (omega (arith, few))) at e)
+        never-for (windowFault true s a b) (length l) k (rw (le-leb (length l) room (omega (arith, few))) at e)
 
     -- so the text follows from the answer with that room
     pub text-is : (w : Window) → w ≡ windowSpec true s a b room
