@@ -1,7 +1,7 @@
 // The clash check and the way back.
 ghost use mathlib.Core.Path.{_≡_};
 ghost use Rattle.clash.specs.Clash.{clashSpec, backSpec};
-ghost use Rattle.gillacorn.specs.Clashes.{pairOf, sourcesShown};
+ghost use Rattle.gillacorn.specs.Clashes.{pairAnswer, sourcesAnswer};
 use crate::told::T;
 use check::expect;
 use gillacorn::clashes::gillacorn_clash;
@@ -9,7 +9,7 @@ use gillacorn::clashes::gillacorn_way_back;
 
 // The least two addresses of a..b that share a translation.
 fn clashes(table: &[u8], a: u32, b: u32, code: u32, first: u32, second: u32)
-    requires { ⌜ pairOf (clashSpec (now table) a b) ≡ record { code = code; first = first; second = second } ⌝ }
+    requires { ⌜ pairAnswer (clashSpec (now table) a b) ≡ record { code = code; first = first; second = second } ⌝ }
 {
     let told = gillacorn_clash(table, a, b);
     expect(told.code == code);
@@ -19,7 +19,7 @@ fn clashes(table: &[u8], a: u32, b: u32, code: u32, first: u32, second: u32)
 
 // The least sources of t in a..b, and how many are told.
 fn goes_back(table: &[u8], a: u32, b: u32, t: u32, sources: u32, first: u32, second: u32)
-    requires { ⌜ sourcesShown (backSpec (now table) a b t) ≡ record { code = 0; sources = sources; first = first; second = second } ⌝ }
+    requires { ⌜ sourcesAnswer (backSpec (now table) a b t) ≡ record { code = 0; sources = sources; first = first; second = second } ⌝ }
 {
     let told = gillacorn_way_back(table, a, b, t);
     expect(told.code == 0);

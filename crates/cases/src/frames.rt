@@ -3,7 +3,7 @@ ghost use mathlib.Core.Path.{_≡_};
 ghost use mathlib.Core.List.{_∷_, []};
 ghost use Rattle.framedata.specs.Step.{stepSpec};
 ghost use Rattle.framedata.specs.Start.{startSpec};
-ghost use Rattle.gillacorn.specs.Frames.{frameStepOf, startingOf};
+ghost use Rattle.gillacorn.specs.Frames.{frameStepAnswer, frameCursorAnswer};
 ghost use Rattle.cases.specs.Brief.{brief};
 use check::expect;
 use framedata::FrameCursor;
@@ -23,7 +23,7 @@ fn yields(
     k: usize,
     l: usize,
 )
-    requires { ⌜ brief (frameStepOf (stepSpec (now old) (now new) (record { «old_index» = i; «new_index» = j }))) ≡ code ∷ ty ∷ start ∷ k ∷ l ∷ [] ⌝ }
+    requires { ⌜ brief (frameStepAnswer (stepSpec (now old) (now new) (record { «old_index» = i; «new_index» = j }))) ≡ code ∷ ty ∷ start ∷ k ∷ l ∷ [] ⌝ }
 {
     let cursor = FrameCursor {
         old_index: i,
@@ -41,7 +41,7 @@ fn yields(
 
 // The indexes that an iteration from an address starts with.
 fn begins(old: &[u8], new: &[u8], address: u32, i: usize, j: usize)
-    requires { ⌜ startingOf (startSpec address (now old) (now new)) ≡ record { code = 0; cursor = record { «old_index» = i; «new_index» = j } } ⌝ }
+    requires { ⌜ frameCursorAnswer (startSpec address (now old) (now new)) ≡ record { code = 0; cursor = record { «old_index» = i; «new_index» = j } } ⌝ }
 {
     let told = gillacorn_frames_at(address, true, old, true, new);
     let cursor = told.cursor;

@@ -2,14 +2,14 @@
 ghost use mathlib.Core.Path.{_≡_};
 ghost use mathlib.Core.Bool.{true};
 ghost use Rattle.omap.specs.Lookup.{lookupSpec};
-ghost use Rattle.gillacorn.specs.Code.{valueOf};
+ghost use Rattle.gillacorn.specs.Code.{valueAnswer};
 use crate::told::T;
 use crate::told::is;
 use gillacorn::tables::gillacorn_lookup;
 
 // The translation of an address by a present table.
 fn translates(table: &[u8], address: u32, code: u32, value: u32)
-    requires { ⌜ valueOf (lookupSpec true (now table) address) ≡ record { code = code; value = value } ⌝ }
+    requires { ⌜ valueAnswer (lookupSpec true (now table) address) ≡ record { code = code; value = value } ⌝ }
 {
     is(gillacorn_lookup(true, table, address), code, value);
 }

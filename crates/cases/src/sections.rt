@@ -1,7 +1,7 @@
 // Sections.
 ghost use mathlib.Core.Path.{_≡_};
 ghost use Rattle.address_map.specs.Sections.{sectionSpec, addressSpec};
-ghost use Rattle.gillacorn.specs.Code.{valueOf};
+ghost use Rattle.gillacorn.specs.Code.{valueAnswer};
 ghost use Rattle.gillacorn.specs.Addresses.{offsetAnswer};
 use crate::told::is;
 use check::expect;
@@ -20,7 +20,7 @@ fn locates(table: &[u8], address: u32, code: u32, section: u16, offset: u32)
 
 // The address of an offset in a section.
 fn lies(table: &[u8], section: u16, offset: u32, code: u32, value: u32)
-    requires { ⌜ valueOf (addressSpec (now table) (record { section = section; offset = offset })) ≡ record { code = code; value = value } ⌝ }
+    requires { ⌜ valueAnswer (addressSpec (now table) (record { section = section; offset = offset })) ≡ record { code = code; value = value } ⌝ }
 {
     is(
         gillacorn_virtual_address(table, section, offset),

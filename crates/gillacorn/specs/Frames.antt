@@ -7,11 +7,11 @@ use Rattle.framedata.specs.Frame.{Frame}
 use Rattle.framedata.specs.Step.{Stepped, atStart}
 use Rattle.framedata.specs.declared.cursor.FrameCursor.{FrameCursor}
 use Rattle.gillacorn.specs.Code.{codeOf}
-use Rattle.gillacorn.specs.declared.code.Value.{Value}
-use Rattle.gillacorn.specs.declared.frames.FrameShown.{FrameShown}
+use Rattle.gillacorn.specs.declared.code.ValueAnswer.{ValueAnswer}
+use Rattle.gillacorn.specs.declared.frames.Frame as face
 use Rattle.gillacorn.specs.declared.frames.FrameAnswer.{FrameAnswer}
-use Rattle.gillacorn.specs.declared.frames.FrameStarting.{FrameStarting}
-use Rattle.gillacorn.specs.declared.frames.FrameStepping.{FrameStepping}
+use Rattle.gillacorn.specs.declared.frames.FrameCursorAnswer.{FrameCursorAnswer}
+use Rattle.gillacorn.specs.declared.frames.FrameStepAnswer.{FrameStepAnswer}
 
 -- what may be missing, as a mark and a number that is 0 where it is missing
 abbrev pub isThere : Option ℕ → Bool
@@ -22,8 +22,9 @@ abbrev pub or0 : Option ℕ → ℕ
 or0 none = 0
 or0 (some n) = n
 
-abbrev pub shownOf : Frame → FrameShown
-shownOf f =
+-- a frame in the numbers of the face's struct
+abbrev pub frameShown : Frame → face.Frame
+frameShown f =
     record {
       ty = f .ty;
       «code_start» = f .codeStart;
@@ -43,7 +44,7 @@ shownOf f =
     }
 
 -- all zeros where there is no frame to give
-abbrev pub noFrame : FrameShown
+abbrev pub noFrame : face.Frame
 noFrame =
     record {
       ty = 0;
@@ -63,8 +64,8 @@ noFrame =
       program = 0;
     }
 
-abbrev pub frameOr0 : Told Frame → FrameShown
-frameOr0 (value f) = shownOf f
+abbrev pub frameOr0 : Told Frame → face.Frame
+frameOr0 (value f) = frameShown f
 frameOr0 nothing = noFrame
 frameOr0 (refused n) = noFrame
 
@@ -76,15 +77,15 @@ cursorOr0 (value c) = c
 cursorOr0 nothing = atStart
 cursorOr0 (refused n) = atStart
 
-abbrev pub startingOf : Told FrameCursor → FrameStarting
-startingOf t = record { code = codeOf t; cursor = cursorOr0 t }
+abbrev pub frameCursorAnswer : Told FrameCursor → FrameCursorAnswer
+frameCursorAnswer t = record { code = codeOf t; cursor = cursorOr0 t }
 
 -- a step's answer and the cursor that it hands back
-abbrev pub frameStepOf : Stepped → FrameStepping
-frameStepOf s = record { code = codeOf (s .answer); frame = frameOr0 (s .answer); cursor = s .cursor }
+abbrev pub frameStepAnswer : Stepped → FrameStepAnswer
+frameStepAnswer s = record { code = codeOf (s .answer); frame = frameOr0 (s .answer); cursor = s .cursor }
 
 -- 1 for yes, 0 for no
-abbrev pub yesOf : Told Bool → Value
-yesOf (value b) = record { code = 0; value = cond b 1 0 }
-yesOf nothing = record { code = 255; value = 0 }
-yesOf (refused n) = record { code = n; value = 0 }
+abbrev pub yesAnswer : Told Bool → ValueAnswer
+yesAnswer (value b) = record { code = 0; value = cond b 1 0 }
+yesAnswer nothing = record { code = 255; value = 0 }
+yesAnswer (refused n) = record { code = n; value = 0 }

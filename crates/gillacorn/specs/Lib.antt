@@ -1,5 +1,6 @@
 pub mod Code
-pub mod Tables
+pub mod Lookups
+pub mod Windows
 pub mod Headers
 pub mod Sections
 pub mod Frames

@@ -5,12 +5,12 @@ ghost use Rattle.lent.specs.Table.{ifPresent};
 ghost use Rattle.omap.specs.Lookup.{lookupSpec};
 ghost use Rattle.address_map.specs.Sections.{inSection, sectionSpec, addressSpec};
 ghost use Rattle.address_map.specs.Paths.{actual, crossLocate, placeCross, placeCrossLocate};
-ghost use Rattle.gillacorn.specs.Code.{valueOf};
+ghost use Rattle.gillacorn.specs.Code.{valueAnswer};
 ghost use Rattle.gillacorn.specs.Sections.{offsetAnswer};
-use crate::code::Value;
-use crate::code::value_of;
+use crate::code::ValueAnswer;
+use crate::code::value_answer;
 use crate::sections::OffsetAnswer;
-use crate::sections::offset_of;
+use crate::sections::offset_answer;
 use address_map::PdbInternalRva;
 use address_map::PdbInternalSectionOffset;
 use address_map::Rva;
@@ -27,10 +27,10 @@ pub extern "C" fn gillacorn_rva_to_internal_rva<'s>(
     to_original: &'s [u8],
     has_to_transformed: bool,
     to_transformed: &'s [u8],
-) -> Value
-    ensures { λ r. ⌜ r ≡ valueOf (lookupSpec «has_to_original» (now («to_original» .entry)) rva) ⌝ }
+) -> ValueAnswer
+    ensures { λ r. ⌜ r ≡ valueAnswer (lookupSpec «has_to_original» (now («to_original» .entry)) rva) ⌝ }
 {
-    value_of(Rva(rva).to_internal_rva(has_to_original, to_original))
+    value_answer(Rva(rva).to_internal_rva(has_to_original, to_original))
 }
 
 #[no_mangle]
@@ -47,7 +47,7 @@ pub extern "C" fn gillacorn_rva_to_section_offset<'s>(
 ) -> OffsetAnswer
     ensures { λ r. ⌜ r ≡ offsetAnswer (sectionSpec (actual «has_original» (now (original .entry)) «has_transformed» (now (transformed .entry))) rva) ⌝ }
 {
-    offset_of(Rva(rva).to_section_offset(has_original, original, has_transformed, transformed))
+    offset_answer(Rva(rva).to_section_offset(has_original, original, has_transformed, transformed))
 }
 
 #[no_mangle]
@@ -64,7 +64,7 @@ pub extern "C" fn gillacorn_rva_to_internal_offset<'s>(
 ) -> OffsetAnswer
     ensures { λ r. ⌜ r ≡ offsetAnswer (crossLocate «has_to_original» (now («to_original» .entry)) (ifPresent «has_original» (now (original .entry))) rva) ⌝ }
 {
-    offset_of(Rva(rva).to_internal_offset(has_original, original, has_to_original, to_original))
+    offset_answer(Rva(rva).to_internal_offset(has_original, original, has_to_original, to_original))
 }
 
 #[no_mangle]
@@ -78,10 +78,10 @@ pub extern "C" fn gillacorn_internal_rva_to_rva<'s>(
     to_original: &'s [u8],
     has_to_transformed: bool,
     to_transformed: &'s [u8],
-) -> Value
-    ensures { λ r. ⌜ r ≡ valueOf (lookupSpec «has_to_transformed» (now («to_transformed» .entry)) rva) ⌝ }
+) -> ValueAnswer
+    ensures { λ r. ⌜ r ≡ valueAnswer (lookupSpec «has_to_transformed» (now («to_transformed» .entry)) rva) ⌝ }
 {
-    value_of(PdbInternalRva(rva).to_rva(has_to_transformed, to_transformed))
+    value_answer(PdbInternalRva(rva).to_rva(has_to_transformed, to_transformed))
 }
 
 #[no_mangle]
@@ -98,7 +98,7 @@ pub extern "C" fn gillacorn_internal_rva_to_section_offset<'s>(
 ) -> OffsetAnswer
     ensures { λ r. ⌜ r ≡ offsetAnswer (crossLocate «has_to_transformed» (now («to_transformed» .entry)) (actual «has_original» (now (original .entry)) «has_transformed» (now (transformed .entry))) rva) ⌝ }
 {
-    offset_of(PdbInternalRva(rva).to_section_offset(
+    offset_answer(PdbInternalRva(rva).to_section_offset(
         has_original,
         original,
         has_transformed,
@@ -122,7 +122,7 @@ pub extern "C" fn gillacorn_internal_rva_to_internal_offset<'s>(
 ) -> OffsetAnswer
     ensures { λ r. ⌜ r ≡ offsetAnswer (sectionSpec (ifPresent «has_original» (now (original .entry))) rva) ⌝ }
 {
-    offset_of(PdbInternalRva(rva).to_internal_offset(has_original, original))
+    offset_answer(PdbInternalRva(rva).to_internal_offset(has_original, original))
 }
 
 #[no_mangle]
@@ -137,10 +137,10 @@ pub extern "C" fn gillacorn_offset_to_rva<'s>(
     to_original: &'s [u8],
     has_to_transformed: bool,
     to_transformed: &'s [u8],
-) -> Value
-    ensures { λ r. ⌜ r ≡ valueOf (addressSpec (actual «has_original» (now (original .entry)) «has_transformed» (now (transformed .entry))) (inSection section offset)) ⌝ }
+) -> ValueAnswer
+    ensures { λ r. ⌜ r ≡ valueAnswer (addressSpec (actual «has_original» (now (original .entry)) «has_transformed» (now (transformed .entry))) (inSection section offset)) ⌝ }
 {
-    value_of(SectionOffset { offset, section }.to_rva(
+    value_answer(SectionOffset { offset, section }.to_rva(
         has_original,
         original,
         has_transformed,
@@ -160,10 +160,10 @@ pub extern "C" fn gillacorn_offset_to_internal_rva<'s>(
     to_original: &'s [u8],
     has_to_transformed: bool,
     to_transformed: &'s [u8],
-) -> Value
-    ensures { λ r. ⌜ r ≡ valueOf (placeCross (actual «has_original» (now (original .entry)) «has_transformed» (now (transformed .entry))) «has_to_original» (now («to_original» .entry)) (inSection section offset)) ⌝ }
+) -> ValueAnswer
+    ensures { λ r. ⌜ r ≡ valueAnswer (placeCross (actual «has_original» (now (original .entry)) «has_transformed» (now (transformed .entry))) «has_to_original» (now («to_original» .entry)) (inSection section offset)) ⌝ }
 {
-    value_of(SectionOffset { offset, section }.to_internal_rva(
+    value_answer(SectionOffset { offset, section }.to_internal_rva(
         has_original,
         original,
         has_transformed,
@@ -188,7 +188,7 @@ pub extern "C" fn gillacorn_offset_to_internal_offset<'s>(
 ) -> OffsetAnswer
     ensures { λ r. ⌜ r ≡ offsetAnswer (placeCrossLocate «has_transformed» (now (transformed .entry)) «has_to_original» (now («to_original» .entry)) (ifPresent «has_original» (now (original .entry))) (inSection section offset)) ⌝ }
 {
-    offset_of(SectionOffset { offset, section }.to_internal_offset(
+    offset_answer(SectionOffset { offset, section }.to_internal_offset(
         has_original,
         original,
         has_transformed,
@@ -210,10 +210,10 @@ pub extern "C" fn gillacorn_internal_offset_to_rva<'s>(
     to_original: &'s [u8],
     has_to_transformed: bool,
     to_transformed: &'s [u8],
-) -> Value
-    ensures { λ r. ⌜ r ≡ valueOf (placeCross (ifPresent «has_original» (now (original .entry))) «has_to_transformed» (now («to_transformed» .entry)) (inSection section offset)) ⌝ }
+) -> ValueAnswer
+    ensures { λ r. ⌜ r ≡ valueAnswer (placeCross (ifPresent «has_original» (now (original .entry))) «has_to_transformed» (now («to_transformed» .entry)) (inSection section offset)) ⌝ }
 {
-    value_of(PdbInternalSectionOffset { offset, section }.to_rva(
+    value_answer(PdbInternalSectionOffset { offset, section }.to_rva(
         has_original,
         original,
         has_to_transformed,
@@ -233,10 +233,13 @@ pub extern "C" fn gillacorn_internal_offset_to_internal_rva<'s>(
     to_original: &'s [u8],
     has_to_transformed: bool,
     to_transformed: &'s [u8],
-) -> Value
-    ensures { λ r. ⌜ r ≡ valueOf (addressSpec (ifPresent «has_original» (now (original .entry))) (inSection section offset)) ⌝ }
+) -> ValueAnswer
+    ensures { λ r. ⌜ r ≡ valueAnswer (addressSpec (ifPresent «has_original» (now (original .entry))) (inSection section offset)) ⌝ }
 {
-    value_of(PdbInternalSectionOffset { offset, section }.to_internal_rva(has_original, original))
+    value_answer(PdbInternalSectionOffset { offset, section }.to_internal_rva(
+        has_original,
+        original,
+    ))
 }
 
 #[no_mangle]
@@ -254,7 +257,7 @@ pub extern "C" fn gillacorn_internal_offset_to_section_offset<'s>(
 ) -> OffsetAnswer
     ensures { λ r. ⌜ r ≡ offsetAnswer (placeCrossLocate «has_transformed» (ifPresent «has_original» (now (original .entry))) «has_to_transformed» (now («to_transformed» .entry)) (now (transformed .entry)) (inSection section offset)) ⌝ }
 {
-    offset_of(PdbInternalSectionOffset { offset, section }.to_section_offset(
+    offset_answer(PdbInternalSectionOffset { offset, section }.to_section_offset(
         has_original,
         original,
         has_transformed,

@@ -1,10 +1,10 @@
 // The clash check and the way back.
 ghost use mathlib.Core.Path.{_≡_};
 ghost use Rattle.clash.specs.Clash.{toldClashed, clashSpec, toldBack, backSpec};
-ghost use Rattle.gillacorn.specs.Clashes.{pairOf, sourcesShown};
-use crate::code::number_of;
+ghost use Rattle.gillacorn.specs.Clashes.{pairAnswer, sourcesAnswer};
 use clash::Back;
 use clash::Clashed;
+use lent::refusal_number;
 
 // The least two addresses that share a translation, beside the code.
 #[repr(C)]
@@ -23,8 +23,8 @@ pub struct SourcesAnswer {
     pub second: u32,
 }
 
-fn pair_of(clashed: Clashed) -> PairAnswer
-    ensures { λ r. ⌜ r ≡ pairOf (toldClashed clashed) ⌝ }
+fn pair_answer(clashed: Clashed) -> PairAnswer
+    ensures { λ r. ⌜ r ≡ pairAnswer (toldClashed clashed) ⌝ }
 {
     match clashed {
         Clashed::Single => PairAnswer {
@@ -38,7 +38,7 @@ fn pair_of(clashed: Clashed) -> PairAnswer
             second,
         },
         Clashed::Refused(why) => PairAnswer {
-            code: number_of(why),
+            code: refusal_number(why),
             first: 0,
             second: 0,
         },
@@ -50,8 +50,8 @@ fn pair_of(clashed: Clashed) -> PairAnswer
     }
 }
 
-fn sources_of(back: Back) -> SourcesAnswer
-    ensures { λ r. ⌜ r ≡ sourcesShown (toldBack back) ⌝ }
+fn sources_answer(back: Back) -> SourcesAnswer
+    ensures { λ r. ⌜ r ≡ sourcesAnswer (toldBack back) ⌝ }
 {
     match back {
         Back::Nothing => SourcesAnswer {
@@ -73,7 +73,7 @@ fn sources_of(back: Back) -> SourcesAnswer
             second,
         },
         Back::Refused(why) => SourcesAnswer {
-            code: number_of(why),
+            code: refusal_number(why),
             sources: 0,
             first: 0,
             second: 0,
@@ -89,14 +89,14 @@ fn sources_of(back: Back) -> SourcesAnswer
 
 #[no_mangle]
 pub extern "C" fn gillacorn_clash(table: &[u8], a: u32, b: u32) -> PairAnswer
-    ensures { λ r. ⌜ r ≡ pairOf (clashSpec (now (table .entry)) a b) ⌝ }
+    ensures { λ r. ⌜ r ≡ pairAnswer (clashSpec (now (table .entry)) a b) ⌝ }
 {
-    pair_of(clash::clash(table, a, b))
+    pair_answer(clash::clash(table, a, b))
 }
 
 #[no_mangle]
 pub extern "C" fn gillacorn_way_back(table: &[u8], a: u32, b: u32, t: u32) -> SourcesAnswer
-    ensures { λ r. ⌜ r ≡ sourcesShown (backSpec (now (table .entry)) a b t) ⌝ }
+    ensures { λ r. ⌜ r ≡ sourcesAnswer (backSpec (now (table .entry)) a b t) ⌝ }
 {
-    sources_of(clash::way_back(table, a, b, t))
+    sources_answer(clash::way_back(table, a, b, t))
 }

@@ -6,9 +6,8 @@ ghost use Rattle.framedata.specs.Frame.{toldFrame, toldFramed, toldStack, toldP
 ghost use Rattle.framedata.specs.Step.{toldStep, stepSpec};
 ghost use Rattle.framedata.specs.Start.{toldStarted, startSpec};
 ghost use Rattle.framedata.specs.Tables.{toldEmptiness, emptySpec};
-ghost use Rattle.gillacorn.specs.Frames.{isThere, or0, shownOf, noFrame, frameAnswer, startingOf, frameStepOf, yesOf};
-use crate::code::Value;
-use crate::code::number_of;
+ghost use Rattle.gillacorn.specs.Frames.{isThere, or0, frameShown, noFrame, frameAnswer, frameCursorAnswer, frameStepAnswer, yesAnswer};
+use crate::code::ValueAnswer;
 use framedata::Emptiness;
 use framedata::FrameCursor;
 use framedata::FrameData;
@@ -18,9 +17,10 @@ use framedata::FrameType;
 use framedata::Framed;
 use framedata::Program;
 use framedata::StackSize;
+use lent::refusal_number;
 
 #[repr(C)]
-pub struct FrameShown {
+pub struct Frame {
     pub ty: u32,
     pub code_start: u32,
     pub code_size: u32,
@@ -41,19 +41,19 @@ pub struct FrameShown {
 #[repr(C)]
 pub struct FrameAnswer {
     pub code: u32,
-    pub frame: FrameShown,
+    pub frame: Frame,
 }
 
 #[repr(C)]
-pub struct FrameStarting {
+pub struct FrameCursorAnswer {
     pub code: u32,
     pub cursor: FrameCursor,
 }
 
 #[repr(C)]
-pub struct FrameStepping {
+pub struct FrameStepAnswer {
     pub code: u32,
-    pub frame: FrameShown,
+    pub frame: Frame,
     pub cursor: FrameCursor,
 }
 
@@ -106,13 +106,13 @@ fn program_of(program: Program) -> u32
     }
 }
 
-fn shown_of(frame: FrameData) -> FrameShown
-    ensures { λ r. ⌜ r ≡ shownOf (toldFrame frame) ⌝ }
+fn frame_shown(frame: FrameData) -> Frame
+    ensures { λ r. ⌜ r ≡ frameShown (toldFrame frame) ⌝ }
 {
     let ty = frame.ty;
     let size = frame.max_stack_size;
     let program = frame.program;
-    FrameShown {
+    Frame {
         ty: type_of(ty),
         code_start: frame.code_start,
         code_size: frame.code_size,
@@ -132,10 +132,10 @@ fn shown_of(frame: FrameData) -> FrameShown
 }
 
 // What stands where there is no frame to give.
-fn no_frame() -> FrameShown
+fn no_frame() -> Frame
     ensures { λ r. ⌜ r ≡ noFrame ⌝ }
 {
-    FrameShown {
+    Frame {
         ty: 0,
         code_start: 0,
         code_size: 0,
@@ -154,20 +154,20 @@ fn no_frame() -> FrameShown
     }
 }
 
-fn framed_of(framed: Framed) -> FrameAnswer
+fn frame_answer(framed: Framed) -> FrameAnswer
     ensures { λ r. ⌜ r ≡ frameAnswer (toldFramed framed) ⌝ }
 {
     match framed {
         Framed::Frame(frame) => FrameAnswer {
             code: 0,
-            frame: shown_of(frame),
+            frame: frame_shown(frame),
         },
         Framed::Nothing => FrameAnswer {
             code: 255,
             frame: no_frame(),
         },
         Framed::Refused(why) => FrameAnswer {
-            code: number_of(why),
+            code: refusal_number(why),
             frame: no_frame(),
         },
         Framed::TooLarge => FrameAnswer {
@@ -177,26 +177,26 @@ fn framed_of(framed: Framed) -> FrameAnswer
     }
 }
 
-fn frame_step_of(step: FrameStep) -> FrameStepping
-    ensures { λ r. ⌜ r ≡ frameStepOf (toldStep step) ⌝ }
+fn frame_step_answer(step: FrameStep) -> FrameStepAnswer
+    ensures { λ r. ⌜ r ≡ frameStepAnswer (toldStep step) ⌝ }
 {
     match step {
-        FrameStep::Frame(frame, cursor) => FrameStepping {
+        FrameStep::Frame(frame, cursor) => FrameStepAnswer {
             code: 0,
-            frame: shown_of(frame),
+            frame: frame_shown(frame),
             cursor,
         },
-        FrameStep::End(cursor) => FrameStepping {
+        FrameStep::End(cursor) => FrameStepAnswer {
             code: 255,
             frame: no_frame(),
             cursor,
         },
-        FrameStep::Refused(why, cursor) => FrameStepping {
-            code: number_of(why),
+        FrameStep::Refused(why, cursor) => FrameStepAnswer {
+            code: refusal_number(why),
             frame: no_frame(),
             cursor,
         },
-        FrameStep::TooLarge(cursor) => FrameStepping {
+        FrameStep::TooLarge(cursor) => FrameStepAnswer {
             code: 4,
             frame: no_frame(),
             cursor,
@@ -204,13 +204,13 @@ fn frame_step_of(step: FrameStep) -> FrameStepping
     }
 }
 
-fn starting_of(started: FrameStarted) -> FrameStarting
-    ensures { λ r. ⌜ r ≡ startingOf (toldStarted started) ⌝ }
+fn frame_cursor_answer(started: FrameStarted) -> FrameCursorAnswer
+    ensures { λ r. ⌜ r ≡ frameCursorAnswer (toldStarted started) ⌝ }
 {
     match started {
-        FrameStarted::At(cursor) => FrameStarting { code: 0, cursor },
-        FrameStarted::Refused(why) => FrameStarting {
-            code: number_of(why),
+        FrameStarted::At(cursor) => FrameCursorAnswer { code: 0, cursor },
+        FrameStarted::Refused(why) => FrameCursorAnswer {
+            code: refusal_number(why),
             cursor: FrameCursor {
                 old_index: 0,
                 new_index: 0,
@@ -219,14 +219,14 @@ fn starting_of(started: FrameStarted) -> FrameStarting
     }
 }
 
-fn yes_of(emptiness: Emptiness) -> Value
-    ensures { λ r. ⌜ r ≡ yesOf (toldEmptiness emptiness) ⌝ }
+fn yes_answer(emptiness: Emptiness) -> ValueAnswer
+    ensures { λ r. ⌜ r ≡ yesAnswer (toldEmptiness emptiness) ⌝ }
 {
     match emptiness {
-        Emptiness::Yes => Value { code: 0, value: 1 },
-        Emptiness::No => Value { code: 0, value: 0 },
-        Emptiness::Refused(why) => Value {
-            code: number_of(why),
+        Emptiness::Yes => ValueAnswer { code: 0, value: 1 },
+        Emptiness::No => ValueAnswer { code: 0, value: 0 },
+        Emptiness::Refused(why) => ValueAnswer {
+            code: refusal_number(why),
             value: 0,
         },
     }
@@ -236,14 +236,14 @@ fn yes_of(emptiness: Emptiness) -> Value
 pub extern "C" fn gillacorn_old_frame(table: &[u8], place: usize) -> FrameAnswer
     ensures { λ r. ⌜ r ≡ frameAnswer (oldFrameSpec (now (table .entry)) place) ⌝ }
 {
-    framed_of(framedata::old_frame_at(table, place))
+    frame_answer(framedata::old_frame_at(table, place))
 }
 
 #[no_mangle]
 pub extern "C" fn gillacorn_new_frame(table: &[u8], place: usize) -> FrameAnswer
     ensures { λ r. ⌜ r ≡ frameAnswer (newFrameSpec (now (table .entry)) place) ⌝ }
 {
-    framed_of(framedata::new_frame_at(table, place))
+    frame_answer(framedata::new_frame_at(table, place))
 }
 
 #[no_mangle]
@@ -253,10 +253,10 @@ pub extern "C" fn gillacorn_frame_next(
     old_frames: &[u8],
     has_new: bool,
     new_frames: &[u8],
-) -> FrameStepping
-    ensures { λ r. ⌜ r ≡ frameStepOf (stepSpec (ifPresent «has_old» (now («old_frames» .entry))) (ifPresent «has_new» (now («new_frames» .entry))) cursor) ⌝ }
+) -> FrameStepAnswer
+    ensures { λ r. ⌜ r ≡ frameStepAnswer (stepSpec (ifPresent «has_old» (now («old_frames» .entry))) (ifPresent «has_new» (now («new_frames» .entry))) cursor) ⌝ }
 {
-    frame_step_of(cursor.step(has_old, old_frames, has_new, new_frames))
+    frame_step_answer(cursor.step(has_old, old_frames, has_new, new_frames))
 }
 
 #[no_mangle]
@@ -266,10 +266,10 @@ pub extern "C" fn gillacorn_frames_at(
     old_frames: &[u8],
     has_new: bool,
     new_frames: &[u8],
-) -> FrameStarting
-    ensures { λ r. ⌜ r ≡ startingOf (startSpec address (ifPresent «has_old» (now («old_frames» .entry))) (ifPresent «has_new» (now («new_frames» .entry)))) ⌝ }
+) -> FrameCursorAnswer
+    ensures { λ r. ⌜ r ≡ frameCursorAnswer (startSpec address (ifPresent «has_old» (now («old_frames» .entry))) (ifPresent «has_new» (now («new_frames» .entry)))) ⌝ }
 {
-    starting_of(framedata::start_at(address, has_old, old_frames, has_new, new_frames))
+    frame_cursor_answer(framedata::start_at(address, has_old, old_frames, has_new, new_frames))
 }
 
 #[no_mangle]
@@ -278,8 +278,8 @@ pub extern "C" fn gillacorn_frames_empty(
     old_frames: &[u8],
     has_new: bool,
     new_frames: &[u8],
-) -> Value
-    ensures { λ r. ⌜ r ≡ yesOf (emptySpec (ifPresent «has_old» (now («old_frames» .entry))) (ifPresent «has_new» (now («new_frames» .entry)))) ⌝ }
+) -> ValueAnswer
+    ensures { λ r. ⌜ r ≡ yesAnswer (emptySpec (ifPresent «has_old» (now («old_frames» .entry))) (ifPresent «has_new» (now («new_frames» .entry)))) ⌝ }
 {
-    yes_of(framedata::is_empty(has_old, old_frames, has_new, new_frames))
+    yes_answer(framedata::is_empty(has_old, old_frames, has_new, new_frames))
 }

@@ -5,9 +5,9 @@ ghost use Rattle.pe.specs.Header.{headerSpec, toldGiven};
 ghost use Rattle.pe.specs.declared.header.ImageSectionHeader.{ImageSectionHeader};
 ghost use Rattle.pe.specs.Flags.{alignmentSpec, toldAlignment};
 ghost use Rattle.pe.specs.Name.{nameSpec};
-ghost use Rattle.gillacorn.specs.Code.{codeOf, valueOf};
+ghost use Rattle.gillacorn.specs.Code.{codeOf, valueAnswer};
 ghost use Rattle.gillacorn.specs.Headers.{headerAnswer, flagsOf};
-use crate::code::Value;
+use crate::code::ValueAnswer;
 use pe::Alignment;
 use pe::Given;
 use pe::ImageSectionHeader;
@@ -55,15 +55,15 @@ fn code_of(given: Given) -> u32
     }
 }
 
-fn aligned(alignment: Alignment) -> Value
-    ensures { λ r. ⌜ r ≡ valueOf (toldAlignment alignment) ⌝ }
+fn aligned(alignment: Alignment) -> ValueAnswer
+    ensures { λ r. ⌜ r ≡ valueAnswer (toldAlignment alignment) ⌝ }
 {
     match alignment {
-        Alignment::Bytes(n) => Value {
+        Alignment::Bytes(n) => ValueAnswer {
             code: 0,
             value: n as u32,
         },
-        Alignment::Nothing => Value {
+        Alignment::Nothing => ValueAnswer {
             code: 255,
             value: 0,
         },
@@ -120,8 +120,8 @@ pub extern "C" fn gillacorn_characteristics(characteristics: u32) -> Flags
 }
 
 #[no_mangle]
-pub extern "C" fn gillacorn_alignment(characteristics: u32) -> Value
-    ensures { λ r. ⌜ r ≡ valueOf (alignmentSpec characteristics) ⌝ }
+pub extern "C" fn gillacorn_alignment(characteristics: u32) -> ValueAnswer
+    ensures { λ r. ⌜ r ≡ valueAnswer (alignmentSpec characteristics) ⌝ }
 {
     aligned(SectionCharacteristics(characteristics).alignment())
 }

@@ -6,5 +6,6 @@ pub mod code;
 pub mod frames;
 pub mod headers;
 pub mod lists;
+pub mod lookups;
 pub mod sections;
-pub mod tables;
+pub mod windows;

@@ -3,9 +3,9 @@ ghost use mathlib.Core.Path.{_≡_};
 ghost use lib.ListN.{length};
 ghost use Rattle.omap.specs.Output.{windowSpec};
 ghost use Rattle.ranges.specs.Shown.{listOut};
-ghost use Rattle.gillacorn.specs.Tables.{piecesOf};
-use crate::tables::Pieces;
-use crate::tables::pieces_of;
+ghost use Rattle.gillacorn.specs.Windows.{piecesAnswer};
+use crate::windows::PiecesAnswer;
+use crate::windows::pieces_answer;
 use ranges::Piece;
 
 #[no_mangle]
@@ -15,8 +15,8 @@ pub extern "C" fn gillacorn_list(
     a: u32,
     b: u32,
     list: &mut [Piece],
-) -> Pieces
-    ensures { λ r. ⌜ (r ≡ piecesOf (windowSpec present (now (table .entry)) a b (length (now (list .entry))))) × (now (list .exit) ≡ listOut present (now (table .entry)) a b (now (list .entry))) ⌝ }
+) -> PiecesAnswer
+    ensures { λ r. ⌜ (r ≡ piecesAnswer (windowSpec present (now (table .entry)) a b (length (now (list .entry))))) × (now (list .exit) ≡ listOut present (now (table .entry)) a b (now (list .entry))) ⌝ }
 {
-    pieces_of(ranges::list(present, table, a, b, list))
+    pieces_answer(ranges::list(present, table, a, b, list))
 }

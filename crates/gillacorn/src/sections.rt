@@ -1,10 +1,10 @@
 // From an address to a section and an offset in it, and back.
 ghost use mathlib.Core.Path.{_≡_};
 ghost use Rattle.address_map.specs.Sections.{inSection, sectionSpec, addressSpec, toldLocated};
-ghost use Rattle.gillacorn.specs.Code.{valueOf};
+ghost use Rattle.gillacorn.specs.Code.{valueAnswer};
 ghost use Rattle.gillacorn.specs.Sections.{offsetAnswer};
-use crate::code::Value;
-use crate::code::value_of;
+use crate::code::ValueAnswer;
+use crate::code::value_answer;
 use address_map::sections::Located;
 use address_map::sections::get_section_offset;
 use address_map::sections::get_virtual_address;
@@ -18,7 +18,7 @@ pub struct OffsetAnswer {
 }
 
 // A place in a section as the face shows it.
-pub fn offset_of(located: Located) -> OffsetAnswer
+pub fn offset_answer(located: Located) -> OffsetAnswer
     ensures { λ r. ⌜ r ≡ offsetAnswer (toldLocated located) ⌝ }
 {
     match located {
@@ -48,12 +48,16 @@ fn no_offset(code: u32) -> OffsetAnswer
 pub extern "C" fn gillacorn_section_offset(sections: &[u8], address: u32) -> OffsetAnswer
     ensures { λ r. ⌜ r ≡ offsetAnswer (sectionSpec (now (sections .entry)) address) ⌝ }
 {
-    offset_of(get_section_offset(sections, address))
+    offset_answer(get_section_offset(sections, address))
 }
 
 #[no_mangle]
-pub extern "C" fn gillacorn_virtual_address(sections: &[u8], section: u16, offset: u32) -> Value
-    ensures { λ r. ⌜ r ≡ valueOf (addressSpec (now (sections .entry)) (inSection section offset)) ⌝ }
+pub extern "C" fn gillacorn_virtual_address(
+    sections: &[u8],
+    section: u16,
+    offset: u32,
+) -> ValueAnswer
+    ensures { λ r. ⌜ r ≡ valueAnswer (addressSpec (now (sections .entry)) (inSection section offset)) ⌝ }
 {
-    value_of(get_virtual_address(sections, section, offset))
+    value_answer(get_virtual_address(sections, section, offset))
 }

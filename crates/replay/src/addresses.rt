@@ -22,7 +22,7 @@ use gillacorn::addresses::gillacorn_rva_to_internal_rva;
 use gillacorn::addresses::gillacorn_rva_to_section_offset;
 use gillacorn::addresses::gillacorn_section_offset;
 use gillacorn::addresses::gillacorn_virtual_address;
-use gillacorn::code::Value;
+use gillacorn::code::ValueAnswer;
 
 pub(crate) fn section_offset(s: &[u8]) -> Told {
     let table = present_at(s, 1);
@@ -77,7 +77,7 @@ pub(crate) fn conversion(s: &[u8], operation: u8) -> Told {
 }
 
 // An address, as a section 0 and an offset.
-fn plain(ours: Value) -> OffsetAnswer {
+fn plain(ours: ValueAnswer) -> OffsetAnswer {
     OffsetAnswer {
         code: ours.code,
         section: 0,

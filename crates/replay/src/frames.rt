@@ -7,7 +7,7 @@ use crate::input::u32_at;
 use crate::told::Told;
 use crate::told::bits;
 use framedata::FrameCursor;
-use gillacorn::frames::FrameShown;
+use gillacorn::frames::Frame;
 use gillacorn::frames::gillacorn_frame_next;
 use gillacorn::frames::gillacorn_frames_at;
 use gillacorn::frames::gillacorn_frames_empty;
@@ -75,7 +75,7 @@ pub(crate) fn empty(s: &[u8]) -> Told {
     crate::told::code(s, new.to, ours.code).u32(s, ours.value)
 }
 
-fn frame_told(s: &[u8], told: Told, ours: FrameShown) -> Told {
+fn frame_told(s: &[u8], told: Told, ours: Frame) -> Told {
     let marks = [
         ours.has_structured_eh,
         ours.has_cpp_eh,

@@ -11,7 +11,7 @@ use crate::tables::MOST;
 use crate::tables::mark;
 use crate::tables::window_told;
 use crate::told::Told;
-use gillacorn::tables::pieces_of;
+use gillacorn::tables::pieces_answer;
 use ranges::reader::drain;
 
 pub(crate) fn list(s: &[u8]) -> Told {
@@ -30,6 +30,6 @@ fn drained(s: &[u8], table: Table, out: &mut [u32]) -> Told {
     let a = u32_at(s, at);
     let b = u32_at(s, after(at, 4));
     mark(out);
-    let ours = pieces_of(drain(table.present, bytes(s, table), a, b, out));
+    let ours = pieces_answer(drain(table.present, bytes(s, table), a, b, out));
     window_told(s, at, ours, out)
 }

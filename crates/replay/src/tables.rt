@@ -7,12 +7,12 @@ use crate::input::table_at;
 use crate::input::u16_at;
 use crate::input::u32_at;
 use crate::told::Told;
-use gillacorn::tables::Pieces;
 use gillacorn::tables::gillacorn_cursor_start;
 use gillacorn::tables::gillacorn_cursor_step;
 use gillacorn::tables::gillacorn_lookup;
 use gillacorn::tables::gillacorn_lookup_range;
 use gillacorn::tables::gillacorn_record_at;
+use gillacorn::windows::PiecesAnswer;
 use omap::cursor::Cursor;
 
 // The places that an output of a case has at most.

@@ -14,7 +14,7 @@ use Rattle.omap.proofs.Cases.{tableT}
 use Rattle.clash.specs.Clash.{pairedOr, leastTwo}
 use Rattle.clash.specs.Meet.{sourceIn, sourcesIn, firstMet, clashOf}
 use Rattle.clash.proofs.Answers.{clash-computed, back-computed}
-use Rattle.gillacorn.specs.Clashes.{pairOf, sourcesShown}
+use Rattle.gillacorn.specs.Clashes.{pairAnswer, sourcesAnswer}
 use Rattle.cases.proofs.clashes.all.Statement.{statement}
 use Rattle.cases.proofs.clashes.all.Tie as tie
 
@@ -24,8 +24,8 @@ all-spec =
     tie.close
     (tie.spec
     (λ c. search needs)
-    (λ c κs. ap pairOf (clash-computed tableT 0x800 0x1400 (omega arith)))
-    (λ c κs. ap pairOf (clash-computed tableT 0x1000 0x1300 (omega arith)))
-    (λ c κs. ap sourcesShown (back-computed tableT 0x800 0x1400 (omega arith) 0x50A0))
-    (λ c κs. ap sourcesShown (back-computed tableT 0x800 0x1400 (omega arith) 0x5100))
+    (λ c κs. ap pairAnswer (clash-computed tableT 0x800 0x1400 (omega arith)))
+    (λ c κs. ap pairAnswer (clash-computed tableT 0x1000 0x1300 (omega arith)))
+    (λ c κs. ap sourcesAnswer (back-computed tableT 0x800 0x1400 (omega arith) 0x50A0))
+    (λ c κs. ap sourcesAnswer (back-computed tableT 0x800 0x1400 (omega arith) 0x5100))
     (λ c. tt))

@@ -3,7 +3,7 @@
 use mathlib.Core.Path.{_∙_, ap}
 use borrow.Author.Needs.{needs}
 use borrow.Author.Tests.{eq-eqb}
-use Rattle.gillacorn.specs.declared.frames.FrameStarting.{FrameStarting}
+use Rattle.gillacorn.specs.declared.frames.FrameCursorAnswer.{FrameCursorAnswer}
 use Rattle.cases.proofs.frames.begins.Statement.{statement}
 use Rattle.cases.proofs.frames.begins.Tie as tie
 
@@ -12,15 +12,15 @@ gillacorn-frames-at-requires c κs = search needs
 
 expect-requires : tie.Need-expect-requires
 expect-requires c κs =
-    eq-eqb _ _ (ap (λ (x : FrameStarting). x .code) (c .before .before .gillacorn-frames-at .ensures ∙ c .before .before .before .before .before .pre))
+    eq-eqb _ _ (ap (λ (x : FrameCursorAnswer). x .code) (c .before .before .gillacorn-frames-at .ensures ∙ c .before .before .before .before .before .pre))
 
 expect-requires-2 : tie.Need-expect-requires-2
 expect-requires-2 c κs =
-    eq-eqb _ _ (ap (λ (x : FrameStarting). x .cursor .«old_index») (c .before .before .before .before .gillacorn-frames-at .ensures ∙ c .before .before .before .before .before .before .before .pre))
+    eq-eqb _ _ (ap (λ (x : FrameCursorAnswer). x .cursor .«old_index») (c .before .before .before .before .gillacorn-frames-at .ensures ∙ c .before .before .before .before .before .before .before .pre))
 
 expect-requires-3 : tie.Need-expect-requires-3
 expect-requires-3 c κs =
-    eq-eqb _ _ (ap (λ (x : FrameStarting). x .cursor .«new_index») (c .before .before .before .before .before .before .gillacorn-frames-at .ensures ∙ c .before .before .before .before .before .before .before .before .before .pre))
+    eq-eqb _ _ (ap (λ (x : FrameCursorAnswer). x .cursor .«new_index») (c .before .before .before .before .before .before .gillacorn-frames-at .ensures ∙ c .before .before .before .before .before .before .before .before .before .pre))
 
 returns : tie.Need-returns
 returns c = search needs

@@ -3,15 +3,15 @@
 use mathlib.Core.Path.{ap}
 use borrow.Author.Needs.{needs}
 use borrow.Author.Tests.{eq-eqb}
-use Rattle.gillacorn.specs.declared.code.Value.{Value}
+use Rattle.gillacorn.specs.declared.code.ValueAnswer.{ValueAnswer}
 use Rattle.cases.proofs.told.is.Statement.{statement}
 use Rattle.cases.proofs.told.is.Tie as tie
 
 expect-requires : tie.Need-expect-requires
-expect-requires c κs = eq-eqb _ _ (ap (λ (v : Value). v .code) (c .before .pre))
+expect-requires c κs = eq-eqb _ _ (ap (λ (v : ValueAnswer). v .code) (c .before .pre))
 
 expect-requires-2 : tie.Need-expect-requires-2
-expect-requires-2 c κs = eq-eqb _ _ (ap (λ (v : Value). v .value) (c .before .before .before .pre))
+expect-requires-2 c κs = eq-eqb _ _ (ap (λ (v : ValueAnswer). v .value) (c .before .before .before .pre))
 
 returns : tie.Need-returns
 returns c = search needs

@@ -11,12 +11,12 @@ use Rattle.gillacorn.proofs.addresses.gillacorn_internal_rva_to_section
 to-section-offset-requires : tie.Need-to-section-offset-requires
 to-section-offset-requires c κs = search needs
 
-offset-of-requires : tie.Need-offset-of-requires
-offset-of-requires c κs = search needs
+offset-answer-requires : tie.Need-offset-answer-requires
+offset-answer-requires c κs = search needs
 
 returns : tie.Need-returns
-returns c = c .offset-of .ensures ∙ ap offsetAnswer (c .before .to-section-offset .ensures)
+returns c = c .offset-answer .ensures ∙ ap offsetAnswer (c .before .to-section-offset .ensures)
 
 pub gillacorn-internal-rva-to-section-offset-spec : {M : Type 1} → statement M
 gillacorn-internal-rva-to-section-offset-spec =
-    tie.close (tie.spec to-section-offset-requires offset-of-requires returns)
+    tie.close (tie.spec to-section-offset-requires offset-answer-requires returns)

@@ -1,7 +1,7 @@
 -- `gillacorn_offset_to_internal_rva` meets its contract: the library's answer, as the face shows it.
 -- Assumes nothing.
 use mathlib.Core.Path.{ap, _∙_}
-use Rattle.gillacorn.specs.Code.{valueOf}
+use Rattle.gillacorn.specs.Code.{valueAnswer}
 use borrow.Author.Needs.{needs}
 use Rattle.gillacorn.proofs.addresses.gillacorn_offset_to_internal_rva.Statement.{
   statement,
@@ -11,12 +11,12 @@ use Rattle.gillacorn.proofs.addresses.gillacorn_offset_to_internal_rva.
 to-internal-rva-requires : tie.Need-to-internal-rva-requires
 to-internal-rva-requires c κs = search needs
 
-value-of-requires : tie.Need-value-of-requires
-value-of-requires c κs = search needs
+value-answer-requires : tie.Need-value-answer-requires
+value-answer-requires c κs = search needs
 
 returns : tie.Need-returns
-returns c = c .value-of .ensures ∙ ap valueOf (c .before .to-internal-rva .ensures)
+returns c = c .value-answer .ensures ∙ ap valueAnswer (c .before .to-internal-rva .ensures)
 
 pub gillacorn-offset-to-internal-rva-spec : {M : Type 1} → statement M
 gillacorn-offset-to-internal-rva-spec =
-    tie.close (tie.spec to-internal-rva-requires value-of-requires returns)
+    tie.close (tie.spec to-internal-rva-requires value-answer-requires returns)

@@ -11,12 +11,12 @@ use Rattle.gillacorn.proofs.addresses.gillacorn_rva_to_internal_offset.
 to-internal-offset-requires : tie.Need-to-internal-offset-requires
 to-internal-offset-requires c κs = search needs
 
-offset-of-requires : tie.Need-offset-of-requires
-offset-of-requires c κs = search needs
+offset-answer-requires : tie.Need-offset-answer-requires
+offset-answer-requires c κs = search needs
 
 returns : tie.Need-returns
-returns c = c .offset-of .ensures ∙ ap offsetAnswer (c .before .to-internal-offset .ensures)
+returns c = c .offset-answer .ensures ∙ ap offsetAnswer (c .before .to-internal-offset .ensures)
 
 pub gillacorn-rva-to-internal-offset-spec : {M : Type 1} → statement M
 gillacorn-rva-to-internal-offset-spec =
-    tie.close (tie.spec to-internal-offset-requires offset-of-requires returns)
+    tie.close (tie.spec to-internal-offset-requires offset-answer-requires returns)

@@ -1,4 +1,4 @@
--- `gillacorn::lists::gillacorn_list` meets its contract: a walk of its MIR, by hand. The list's borrow goes to `ranges::list` at its own lifetime, and `pieces_of` shows the answer. All that the proof knows of the two is that each meets its contract.
+-- `gillacorn::lists::gillacorn_list` meets its contract: a walk of its MIR, by hand. The list's borrow goes to `ranges::list` at its own lifetime, and `pieces_answer` shows the answer. All that the proof knows of the two is that each meets its contract.
 -- The list isn't needed after the call: at exit the function has only what says its last value (`gave-slice`). A `&[u8]` is Copy: what it owns is had twice, and one goes to the callee.
 -- Assumes nothing.
 use mathlib.Core.Path.{_≡_, refl, ap, _∙_}
@@ -40,9 +40,9 @@ use denote.Triple.Clauses.{ensured, lasts}
 use denote.Triple.Walked.{says, Stays, gave-slice, stay-none, stay-none-slice, walkOf, Walks, ends-at, walked, goes-gave-slice, goes-none, goes-none-slice, walk-meets}
 use denote.Exit.{yes}
 use Rattle.omap.specs.Output.{toldWindowed, windowSpec}
-use Rattle.omap.specs.declared.window.Windowed.{Windowed}
-use Rattle.omap.proofs.window.Windowed as F
-use Rattle.omap.proofs.window.Windowed.Laws as F′
+use Rattle.omap.specs.declared.windows.Windowed.{Windowed}
+use Rattle.omap.proofs.windows.Windowed as F
+use Rattle.omap.proofs.windows.Windowed.Laws as F′
 use Rattle.ranges.specs.Shown.{listOut}
 use Rattle.ranges.specs.declared.Piece.{Piece}
 use Rattle.ranges.proofs.Piece as P
@@ -50,14 +50,14 @@ use Rattle.ranges.proofs.list as list
 use Rattle.ranges.proofs.list.Symbol as list-def
 use Rattle.ranges.proofs.list.Symbol.{name as #ranges·list}
 use Rattle.ranges.proofs.list.Met as list-thm
-use Rattle.gillacorn.specs.Tables.{piecesOf}
-use Rattle.gillacorn.specs.declared.tables.Pieces.{Pieces}
-use Rattle.gillacorn.proofs.tables.Pieces as Q
-use Rattle.gillacorn.proofs.tables.Pieces.Laws as Q′
-use Rattle.gillacorn.proofs.tables.pieces_of as pieces-of
-use Rattle.gillacorn.proofs.tables.pieces_of.Symbol as pieces-of-def
-use Rattle.gillacorn.proofs.tables.pieces_of.Symbol.{name as #gillacorn·pieces-of}
-use Rattle.gillacorn.proofs.tables.pieces_of.Met as pieces-of-thm
+use Rattle.gillacorn.specs.Windows.{piecesAnswer}
+use Rattle.gillacorn.specs.declared.windows.PiecesAnswer.{PiecesAnswer}
+use Rattle.gillacorn.proofs.windows.PiecesAnswer as Q
+use Rattle.gillacorn.proofs.windows.PiecesAnswer.Laws as Q′
+use Rattle.gillacorn.proofs.windows.pieces_answer as pieces-answer
+use Rattle.gillacorn.proofs.windows.pieces_answer.Symbol as pieces-answer-def
+use Rattle.gillacorn.proofs.windows.pieces_answer.Symbol.{name as #gillacorn·pieces-answer}
+use Rattle.gillacorn.proofs.windows.pieces_answer.Met as pieces-answer-thm
 use Rattle.gillacorn.proofs.lists.gillacorn_list.Key.{name as #gillacorn·list}
 use Rattle.gillacorn.proofs.lists.gillacorn_list as face
 use Rattle.gillacorn.proofs.lists.gillacorn_list.Statement as stated
@@ -72,7 +72,7 @@ module _ {M : Type 1} (𝓤 : URA M) (H : Heap 𝓤) (A : Atoms 𝓤) (mem : Mem
   ListAt = tripleOf 𝓤 H A list.signature (list.spec 𝓤 H A mem run)
 
   abbrev PiecesOfAt : Contract 𝓤
-  PiecesOfAt = tripleOf 𝓤 H A pieces-of.signature (pieces-of.spec 𝓤 H A mem run)
+  PiecesOfAt = tripleOf 𝓤 H A pieces-answer.signature (pieces-answer.spec 𝓤 H A mem run)
 
 module _ {M : Type 1} (𝓤 : URA M) (H : Heap 𝓤) (A : Atoms 𝓤) (W : Given 𝓤 H A) (mem : Memory → SProp 𝓤) (run : Routine → Fun 𝓤) (κ₀ κ₁ : Lft) (q₀ q₁ : Share) (on : Bool) (s : RefT (List ℕ)) (lo hi : ℕ) (b o : ℕ) (γ : GName) (xs : List Piece) where
   abbrev x : RefT (List Piece)
@@ -119,18 +119,18 @@ module _ {M : Type 1} (𝓤 : URA M) (H : Heap 𝓤) (A : Atoms 𝓤) (W : Given
   goes-list : ent 𝓤 (onEntry 𝓤 H A list.signature (κ₀, (κ₁, tt)) (q₀, (q₁, tt)) a at) (ListAt 𝓤 H A mem run .pre to-list)
   goes-list = qed W ((‵ (flft κ₀ q₀) ⊛ (‵ (flft κ₁ q₁) ⊛ ‵ ftrue)) ∷ ‵ (owns (bool ∷ ShrSlice (named 0) κ₀ u8 ∷ u32 ∷ u32 ∷ MutSlice (named 1) κ₁ P.the-row ∷ []) a at) ∷ []) ∵ join ! $ frame ! $ done !
 
-  -- ---- the call of `pieces_of`
+  -- ---- the call of `pieces_answer`
   abbrev to-pieces : Windowed → Val → PiecesOfAt 𝓤 H A mem run .Ghost
   to-pieces r u = ((tt, tt, tt, (r, tt), (u ∷ [], tt)), tt)
 
   goes-pieces : (r : Windowed) (u : Val) → ent 𝓤 (sem 𝓤 H A (F.the-row .own r (u ∷ []))) (PiecesOfAt 𝓤 H A mem run .pre (to-pieces r u))
   goes-pieces r u = qed W (‵ (F.the-row .own r (u ∷ [])) ∷ []) ∵ nothing ! $ move ! (1 ∷ 0 ∷ []) $ join ! $ nothing ! $ join ! $ frame ! $ done !
 
-  said-pieces : (r : Windowed) (p : Pieces) → ent 𝓤 (ensured 𝓤 H A pieces-of.ended (pieces-of.clauses 𝓤 H A mem run) tt (r, tt) tt p) (fact 𝓤 (p ≡ piecesOf (toldWindowed r)))
-  said-pieces r p = exE 𝓤 _ (λ ws. snd∗ 𝓤 (sem 𝓤 H A (lasts pieces-of.ended tt (r, tt) ws)) (fact 𝓤 (p ≡ piecesOf (toldWindowed r))))
+  said-pieces : (r : Windowed) (p : Pieces) → ent 𝓤 (ensured 𝓤 H A pieces-answer.ended (pieces-answer.clauses 𝓤 H A mem run) tt (r, tt) tt p) (fact 𝓤 (p ≡ piecesAnswer (toldWindowed r)))
+  said-pieces r p = exE 𝓤 _ (λ ws. snd∗ 𝓤 (sem 𝓤 H A (lasts pieces-answer.ended tt (r, tt) ws)) (fact 𝓤 (p ≡ piecesAnswer (toldWindowed r))))
 
   module _ (x-fits : length xs < 2 ^ 64) (lo-fits : lo < 2 ^ 32) (hi-fits : hi < 2 ^ 32) where
-    exits : (p : Pieces) (w : Val) (zs : List Piece) → (p ≡ piecesOf (windowSpec on (now s) lo hi (length xs))) × (zs ≡ listOut on (now s) lo hi xs) → length zs ≡ length xs
+    exits : (p : Pieces) (w : Val) (zs : List Piece) → (p ≡ piecesAnswer (windowSpec on (now s) lo hi (length xs))) × (zs ≡ listOut on (now s) lo hi xs) → length zs ≡ length xs
         → ent 𝓤 (⋆ 𝓤 H A ((‵ (flft κ₀ q₀) ⊛ (‵ (flft κ₁ q₁) ⊛ ‵ ftrue)) ∷ ‵ (finally P.the-row γ zs) ∷ ‵ Own ∷ ‵ (Q.the-row .own p (w ∷ [])) ∷ [])) (Post w)
     exits p w zs e l =
         qed W ((‵ (flft κ₀ q₀) ⊛ (‵ (flft κ₁ q₁) ⊛ ‵ ftrue)) ∷ ‵ (finally P.the-row γ zs) ∷ ‵ Own ∷ ‵ (Q.the-row .own p (w ∷ [])) ∷ []) ∵
@@ -138,7 +138,7 @@ module _ {M : Type 1} (𝓤 : URA M) (H : Heap 𝓤) (A : Atoms 𝓤) (W : Given
         nothing ! $ move ! (1 ∷ 0 ∷ []) $ fjoin ! $ owned ! u32 (Is u32) (uint-makes 𝓤 H A W w32) hi _ (refl, hi-fits) $ fjoin ! $ owned ! u32 (Is u32) (uint-makes 𝓤 H A W w32) lo _ (refl, lo-fits) $ fjoin ! $
         move ! (1 ∷ 0 ∷ []) $ fjoin ! $ owned ! bool (Is bool) (bool-makes 𝓤 H A W) on _ refl $ fjoin ! $ frame ! $ done !
 
-    module _ (C : Calls 𝓤 H) (Λ : Loops 𝓤 H) (fm : FmC 𝓤 H (W .laws) C) (known-list : Triple 𝓤 (C #ranges·list) (ListAt 𝓤 H A mem run)) (known-pieces : Triple 𝓤 (C #gillacorn·pieces-of) (PiecesOfAt 𝓤 H A mem run)) where
+    module _ (C : Calls 𝓤 H) (Λ : Loops 𝓤 H) (fm : FmC 𝓤 H (W .laws) C) (known-list : Triple 𝓤 (C #ranges·list) (ListAt 𝓤 H A mem run)) (known-pieces : Triple 𝓤 (C #gillacorn·pieces-answer) (PiecesOfAt 𝓤 H A mem run)) where
       walk : Is (ShrSlice (named 0) κ₀ u8) s (v ∷ []) → ent 𝓤 (onEntry 𝓤 H A face.signature (κ₀, (κ₁, tt)) (q₀, (q₁, tt)) a at) (WpFn 𝓤 H C Λ code.function (vbool on ∷ v ∷ vint w32 lo ∷ vint w32 hi ∷ vl ∷ []) Post)
       walk is-s =
           qed W ((‵ (flft κ₀ q₀) ⊛ (‵ (flft κ₁ q₁) ⊛ ‵ ftrue)) ∷ ‵ (owns (bool ∷ ShrSlice (named 0) κ₀ u8 ∷ u32 ∷ u32 ∷ MutSlice (named 1) κ₁ P.the-row ∷ []) a at) ∷ []) ∵ enter ! C Λ code.function (vbool on ∷ v ∷ vint w32 lo ∷ vint w32 hi ∷ vl ∷ []) _ $
@@ -159,19 +159,19 @@ module _ {M : Type 1} (𝓤 : URA M) (H : Heap 𝓤) (A : Atoms 𝓤) (W : Given
           -- [the last list; true; the tokens and the result; what table owns; _8; …]
           move ! (2 ∷ []) $ split ! $ move ! (1 ∷ []) $ peeks ! F.the-row (Is F.the-row) (shows 𝓤 H A F.the-row) r (u ∷ []) (λ is-r.
           land ! (from ! (stop !)) (init ! 9 refl (EL.lawful F.the-type F′.the-laws 𝓤 H A W tt .typed r _ is-r .0)) $
-          -- `pieces_of`: [the result; the tokens; the last list; true; what table owns; _8; …]
+          -- `pieces_answer`: [the result; the tokens; the last list; true; what table owns; _8; …]
           use1 W (raw (PiecesOfAt 𝓤 H A mem run .pre (to-pieces r u))) (goes-pieces r u) $
           calls-at ! fm (PiecesOfAt 𝓤 H A mem run) known-pieces (to-pieces r u) (and-then ! (load ! (from ! (stop !)) (look ! 9 refl)) (no-more !)) (λ w.
-          use1 W (later (some (λ (p : Pieces). (‵ ftrue ⊛ ‵ (Q.the-row .own p (w ∷ []))) ⊛ raw (ensured 𝓤 H A pieces-of.ended (pieces-of.clauses 𝓤 H A mem run) tt (r, tt) tt p)))) (id⊢ 𝓤 _) $ await ! tt $ pick ! (λ p.
-          split ! $ move ! (1 ∷ []) $ use1 W (raw (fact 𝓤 (p ≡ piecesOf (toldWindowed r)))) (said-pieces r p) $ heard ! (p ≡ piecesOf (toldWindowed r)) (λ e′. split ! $ drop ! $
+          use1 W (later (some (λ (p : Pieces). (‵ ftrue ⊛ ‵ (Q.the-row .own p (w ∷ []))) ⊛ raw (ensured 𝓤 H A pieces-answer.ended (pieces-answer.clauses 𝓤 H A mem run) tt (r, tt) tt p)))) (id⊢ 𝓤 _) $ await ! tt $ pick ! (λ p.
+          split ! $ move ! (1 ∷ []) $ use1 W (raw (fact 𝓤 (p ≡ piecesAnswer (toldWindowed r)))) (said-pieces r p) $ heard ! (p ≡ piecesAnswer (toldWindowed r)) (λ e′. split ! $ drop ! $
           peeks ! Q.the-row (Is Q.the-row) (shows 𝓤 H A Q.the-row) p (w ∷ []) (λ is-p.
           land ! (from ! (stop !)) (init ! 21 refl (LL.lawful Q.the-type Q′.the-laws 𝓤 H A W .typed p _ is-p .0)) $
           returns ! (look ! 21 refl) $ forget ! 5 refl $ forget ! 7 refl $ forget ! 9 refl $ forget ! 11 refl $ forget ! 13 refl $ forget ! 15 refl $ forget ! 17 refl $ forget ! 19 refl $ forget ! 21 refl $
           move ! (21 ∷ 22 ∷ []) $ free1 ! $ move ! (19 ∷ 20 ∷ []) $ free1 ! $ move ! (17 ∷ 18 ∷ []) $ free1 ! $ move ! (15 ∷ 16 ∷ []) $ free1 ! $ move ! (13 ∷ 14 ∷ []) $ free1 ! $ move ! (11 ∷ 12 ∷ []) $ free1 ! $ move ! (9 ∷ 10 ∷ []) $ free1 ! $ move ! (7 ∷ 8 ∷ []) $ free1 ! $ move ! (5 ∷ 6 ∷ []) $ free1 ! $ free0 ! $
-          keep ! (1 ∷ 2 ∷ 4 ∷ 0 ∷ []) $ by ! (exits p w (zs .1 .1 .1 .1 .0) (e′ ∙ ap piecesOf (e .0), e .1) l))))))))))))))))))))
+          keep ! (1 ∷ 2 ∷ 4 ∷ 0 ∷ []) $ by ! (exits p w (zs .1 .1 .1 .1 .0) (e′ ∙ ap piecesAnswer (e .0), e .1) l))))))))))))))))))))
 
 module _ {M : Type 1} (𝓤 : URA M) (H : Heap 𝓤) (A : Atoms 𝓤) (W : Given 𝓤 H A) (mem : Memory → SProp 𝓤) (run : Routine → Fun 𝓤) where
-  face-walks : (C : Calls 𝓤 H) (Λ : Loops 𝓤 H) → FmC 𝓤 H (W .laws) C → Triple 𝓤 (C #ranges·list) (ListAt 𝓤 H A mem run) → Triple 𝓤 (C #gillacorn·pieces-of) (PiecesOfAt 𝓤 H A mem run)
+  face-walks : (C : Calls 𝓤 H) (Λ : Loops 𝓤 H) → FmC 𝓤 H (W .laws) C → Triple 𝓤 (C #ranges·list) (ListAt 𝓤 H A mem run) → Triple 𝓤 (C #gillacorn·pieces-answer) (PiecesOfAt 𝓤 H A mem run)
       → Walks 𝓤 H A face.ended stayed (WpFn 𝓤 H C Λ code.function) (face.clauses 𝓤 H A mem run)
   face-walks C Λ fm known-list known-pieces = walked 𝓤 H A face.ended stayed (face.clauses 𝓤 H A mem run) (WpFn 𝓤 H C Λ code.function) (λ κs. (bool-vals, (slice-vals, (uint-vals w32, (uint-vals w32, (slice-vals, tt))))))
       (λ κs. (bool-tells, (shr-slice-tells (named 0) (κs .0) u8, (uint-tells w32, (uint-tells w32, (mut-slice-tells (named 1) (κs .1 .0) P.the-row, tt))))))
@@ -180,7 +180,7 @@ module _ {M : Type 1} (𝓤 : URA M) (H : Heap 𝓤) (A : Atoms 𝓤) (W : Given
       (are .1 .1 .1 .1 .0 .0 .1 .0) (are .1 .1 .0 .1) (are .1 .1 .1 .0 .1) C Λ fm known-list known-pieces (are .1 .0)))
 
 face-meets : {M : Type 1} (𝓤 : URA M) (H : Heap 𝓤) (A : Atoms 𝓤) → Given 𝓤 H A → (mem : Memory → SProp 𝓤) (run : Routine → Fun 𝓤) (𝓣 : Tables 𝓤 H)
-    → Triple 𝓤 (𝓣 .C #ranges·list) (ListAt 𝓤 H A mem run) → Triple 𝓤 (𝓣 .C #gillacorn·pieces-of) (PiecesOfAt 𝓤 H A mem run)
+    → Triple 𝓤 (𝓣 .C #ranges·list) (ListAt 𝓤 H A mem run) → Triple 𝓤 (𝓣 .C #gillacorn·pieces-answer) (PiecesOfAt 𝓤 H A mem run)
     → Meets 𝓤 H A face.signature (WpFn 𝓤 H (𝓣 .C) (𝓣 .Λ) code.function) (face.spec 𝓤 H A mem run)
 face-meets 𝓤 H A W mem run 𝓣 known-list known-pieces =
     walk-meets 𝓤 H A face.ended stayed W
@@ -194,4 +194,4 @@ gillacorn-list-spec 𝓤 H 𝓜 𝓖 𝓡 =
     (tables 𝓤 H 𝓜 𝓡 code.env .C) (tables 𝓤 H 𝓜 𝓡 code.env .Λ) #gillacorn·list code.function (code.unfolded 𝓤 H 𝓜 𝓡)
     (face-meets 𝓤 H (𝓖 .A) (givenOf 𝓤 H 𝓜 𝓖) (𝓜 .mem) (𝓡 .run) (tablesOf 𝓤 H 𝓜 (tables 𝓤 H 𝓜 𝓡 code.env))
     (cited 𝓤 H (ListAt 𝓤 H (𝓖 .A) (𝓜 .mem) (𝓡 .run)) 𝓜 𝓡 code.env #ranges·list list-def.routine code.calls-ranges·list (list-thm.met 𝓤 H 𝓜 𝓖 𝓡))
-    (cited 𝓤 H (PiecesOfAt 𝓤 H (𝓖 .A) (𝓜 .mem) (𝓡 .run)) 𝓜 𝓡 code.env #gillacorn·pieces-of pieces-of-def.routine code.calls-gillacorn·tables·pieces-of (pieces-of-thm.met 𝓤 H 𝓜 𝓖 𝓡)))
+    (cited 𝓤 H (PiecesOfAt 𝓤 H (𝓖 .A) (𝓜 .mem) (𝓡 .run)) 𝓜 𝓡 code.env #gillacorn·pieces-answer pieces-answer-def.routine code.calls-gillacorn·tables·pieces-answer (pieces-answer-thm.met 𝓤 H 𝓜 𝓖 𝓡)))

@@ -9,12 +9,12 @@ use Rattle.gillacorn.proofs.sections.gillacorn_section_offset.Tie as ti
 get-section-offset-requires : tie.Need-get-section-offset-requires
 get-section-offset-requires c κs = search needs
 
-offset-of-requires : tie.Need-offset-of-requires
-offset-of-requires c κs = search needs
+offset-answer-requires : tie.Need-offset-answer-requires
+offset-answer-requires c κs = search needs
 
 returns : tie.Need-returns
-returns c = c .offset-of .ensures ∙ ap offsetAnswer (c .before .get-section-offset .ensures)
+returns c = c .offset-answer .ensures ∙ ap offsetAnswer (c .before .get-section-offset .ensures)
 
 pub gillacorn-section-offset-spec : {M : Type 1} → statement M
 gillacorn-section-offset-spec =
-    tie.close (tie.spec get-section-offset-requires offset-of-requires returns)
+    tie.close (tie.spec get-section-offset-requires offset-answer-requires returns)
