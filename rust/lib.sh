@@ -1,20 +1,26 @@
-# For the scripts beside it (source it): what the Rust side needs, the proved archive, and a build.
-# Words that the caller may set:
-#   GILLACORN_LIB   a folder that has libgillacorn.a already; else `rt staticlib gillacorn` makes it
-#   PDB_SRC         the folder of pdb's source; else ../shared/docs/src beside the repository
+# For the scripts of rust/ and tests/ (source it): what the Rust side needs, the proved archive, and a
+# build. Words that the caller may set:
+#   GILLACORN_LIB      a folder that has libgillacorn.a already; else it is made
+#   GILLACORN_INSTALL  no: fetch and install nothing
+#   PDB_SRC            the folder of pdb's source; else ../shared/docs/src beside the repository
 
 rust=$(cd "$(dirname "${BASH_SOURCE[0]}")" && pwd)
 repository=$(dirname "$rust")
 
-# Everything that a build needs. Exits with 77 where something can't be had.
-ready() {
-    bash "$rust/setup.sh" || exit $?
-    # shellcheck disable=SC1091
-    . "$rust/target/setup/env"
+# Everything that a build needs, for the archive that users link (x86-64, under an emulator where the
+# machine is of another kind) or for this machine's own (native). Exits with 77 where something can't
+# be had.
+ready() { # x86-64|native
+    bash "$rust/setup.sh" "$1" || exit $?
+    # shellcheck disable=SC1090
+    . "$rust/target/setup/$1"
     # A backtrace needs what the emulator does not give.
     export RUST_BACKTRACE=0
     if [ -n "${GILLACORN_LIB:-}" ]; then
         GILLACORN_LIB=$(cd "$GILLACORN_LIB" && pwd)
+    elif [ "$1" = native ] && [ "$(uname -m)" != x86_64 ]; then
+        bash "$rust/native.sh" || exit $?
+        GILLACORN_LIB=$rust/target/native
     else
         GILLACORN_LIB=$repository/target/staticlib
         archive
@@ -37,15 +43,15 @@ archive() {
     ) || exit $?
 }
 
-# pdb's own files, without which nothing can be compared.
-ready_for_pdb() {
+# pdb's own files, without which nothing can be compared; then as `ready`.
+ready_for_pdb() { # x86-64|native
     PDB_SRC=$(cd "${PDB_SRC:-$repository/../shared/docs/src}" 2>/dev/null && pwd) || PDB_SRC=
     export PDB_SRC
     if [ ! -f "$PDB_SRC/src/omap.rs" ] && [ ! -f "$PDB_SRC/omap.rs" ]; then
         echo "setup: not to be had: the source of pdb 0.8.0 (PDB_SRC names its folder)" >&2
         exit 77
     fi
-    ready
+    ready "$1"
 }
 
 cargo_here() { # what to do, then words for it
@@ -56,5 +62,6 @@ cargo_here() { # what to do, then words for it
 run() {
     local program=$1
     shift
-    ${GILLACORN_EMULATOR:-} "$rust/target/$CARGO_BUILD_TARGET/release/$program" "$@"
+    # shellcheck disable=SC2154 # built: of target/setup
+    ${GILLACORN_EMULATOR:-} "$built/$program" "$@"
 }

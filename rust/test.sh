@@ -4,7 +4,7 @@
 set -euo pipefail
 . "$(dirname "$0")/lib.sh"
 
-ready
+ready x86-64
 tests=(test -p gillacorn)
 if [ -n "${GILLACORN_EMULATOR:-}" ]; then
     # Examples in the documentation are run for another machine only if cargo is told so, and older
