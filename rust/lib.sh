@@ -22,22 +22,23 @@ ready() { # x86-64|native
         bash "$rust/native.sh" || exit $?
         GILLACORN_LIB=$rust/target/native
     else
-        GILLACORN_LIB=$repository/target/staticlib
         archive
+        GILLACORN_LIB=$repository/target/staticlib
     fi
     export GILLACORN_LIB
 }
 
-# The archive takes a proof to make: once for all scripts, until a source is newer.
+# target/staticlib/libgillacorn.a takes a proof to make: once for all scripts, until a source is newer.
 archive() {
     (
         cd "$repository"
-        made=$GILLACORN_LIB/libgillacorn.a
+        made=target/staticlib/libgillacorn.a
         if [ -f "$made" ] && [ -z "$(find crates crates.txt -newer "$made" -print -quit)" ]; then
             exit 0
         fi
-        rt staticlib gillacorn >"$rust/target/staticlib.log" 2>&1 || {
-            cat "$rust/target/staticlib.log" >&2
+        mkdir -p target
+        rt staticlib gillacorn >target/staticlib.log 2>&1 || {
+            cat target/staticlib.log >&2
             exit 1
         }
     ) || exit $?

@@ -96,14 +96,16 @@ find_rust() { # test
 }
 
 for_x86() {
-    local runner='' linker=cc flags="-C target-feature=+crt-static"
+    local runner='' linker=cc cxx=c++ flags="-C target-feature=+crt-static"
     if [ "$(uname -m)" = x86_64 ]; then
         find_rust builds_x86 || { install "rustc and cargo" rustc cargo gcc libc6-dev && find_rust builds_x86; } ||
             missing "a rustc that builds for x86-64"
-        command -v cc >/dev/null || install "a C compiler" gcc libc6-dev
+        command -v cc >/dev/null && command -v c++ >/dev/null ||
+            install "compilers for C and C++" gcc g++ libc6-dev
     else
-        linker=x86_64-linux-gnu-gcc
-        if ! find_rust builds_x86 || ! command -v $linker >/dev/null || [ ! -f /usr/lib/x86_64-linux-gnu/libc.a ]; then
+        linker=x86_64-linux-gnu-gcc cxx=x86_64-linux-gnu-g++
+        if ! find_rust builds_x86 || ! command -v $linker >/dev/null || ! command -v $cxx >/dev/null ||
+            [ ! -f /usr/lib/x86_64-linux-gnu/libc.a ]; then
             update "a rustc that builds for x86-64 (Debian: rustc cargo libstd-rust-dev:amd64)"
             command -v dpkg >/dev/null || missing "dpkg (wanted: rustc for x86-64)"
             dpkg --add-architecture amd64 2>>"$made/apt.log" || missing "Debian's amd64 packages"
@@ -129,6 +131,7 @@ export CARGO='$rust/cargo' RUSTC='$rust/rustc' RUSTDOC='$rust/rustdoc' CARGO_NET
 unset CARGO_TARGET_DIR
 export CARGO_BUILD_TARGET=$target CARGO_TARGET_X86_64_UNKNOWN_LINUX_GNU_LINKER='$linker'
 export RUSTFLAGS='$flags' RUSTDOCFLAGS='$flags'
+compile_c=$linker compile_cxx=$cxx
 built='$here/target/$target/release'
 END
     [ -z "$runner" ] || cat <<END
@@ -172,6 +175,7 @@ export CARGO='$rust/cargo' RUSTC='$rust/rustc' RUSTDOC='$rust/rustdoc' CARGO_NET
 # The crates that pdb stands on are older than this rustc's warnings.
 export CARGO_TARGET_DIR='$here/target/native/cargo' RUSTFLAGS=--cap-lints=allow
 unset CARGO_BUILD_TARGET RUSTDOCFLAGS GILLACORN_EMULATOR
+compile_c=cc compile_cxx=c++
 built='$here/target/native/cargo/release'
 END
     [ -z "$path" ] || echo "export LD_LIBRARY_PATH='$path'"
