@@ -38,6 +38,7 @@ install() { # what it is for, then packages
     local what=$1
     shift
     update "$what (Debian: $*)"
+    echo "setup: installing on this machine, for $what: $*" >&2
     DEBIAN_FRONTEND=noninteractive apt-get install -y --no-install-recommends "$@" \
         >>"$made/apt.log" 2>&1 || missing "$what (Debian: $*)"
 }
@@ -47,6 +48,7 @@ unpack() { # folder, what it is for, packages
     local to=$1 what=$2 file
     shift 2
     update "$what (Debian: $*)"
+    echo "setup: fetching into ${to#"$here/"}, for $what: $*" >&2
     rm -rf "$made/deb" && mkdir -p "$made/deb" "$to"
     (cd "$made/deb" && apt-get download "$@" >>"$made/apt.log" 2>&1) || missing "$what (Debian: $*)"
     for file in "$made"/deb/*.deb; do
@@ -108,6 +110,7 @@ for_x86() {
             [ ! -f /usr/lib/x86_64-linux-gnu/libc.a ]; then
             update "a rustc that builds for x86-64 (Debian: rustc cargo libstd-rust-dev:amd64)"
             command -v dpkg >/dev/null || missing "dpkg (wanted: rustc for x86-64)"
+            echo "setup: having dpkg take amd64's packages on this machine" >&2
             dpkg --add-architecture amd64 2>>"$made/apt.log" || missing "Debian's amd64 packages"
             updated=
             install "rustc with the x86-64 library" rustc cargo libstd-rust-dev:amd64 \
