@@ -14,6 +14,7 @@ pub struct Driver {
     topic: &'static str,
     printed: &'static str,
     notes: Vec<String>,
+    met: bool,
 }
 
 /// One side: how often it is called in a round, and what the rounds took, in seconds a call.
@@ -67,6 +68,7 @@ impl Driver {
             topic: "",
             printed: "",
             notes: Vec::new(),
+            met: false,
         }
     }
 
@@ -83,14 +85,21 @@ impl Driver {
         self.notes.push(note);
     }
 
-    /// No more rows. False where there was none.
+    /// No more rows. False where the pattern met none, measured or left out.
     pub fn end(mut self) -> bool {
         self.topic("");
-        !self.printed.is_empty()
+        self.met
     }
 
+    fn matches(&mut self, what: &str) -> bool {
+        let matches = what.contains(&self.pattern);
+        self.met |= matches;
+        matches
+    }
+
+    /// Whether a row is measured; if it is the first of its topic, the table's head goes before it.
     fn wanted(&mut self, what: &str) -> bool {
-        if !what.contains(&self.pattern) {
+        if !self.matches(what) {
             return false;
         }
         if self.printed != self.topic {
@@ -175,7 +184,7 @@ impl Driver {
 
     /// A row that can't be measured here, and why.
     pub fn left_out(&mut self, what: &str, why: &str) {
-        if what.contains(&self.pattern) {
+        if self.matches(what) {
             self.note(format!("Left out: {what}: {why}."));
         }
     }
