@@ -8,9 +8,9 @@ rust=$(cd "$(dirname "${BASH_SOURCE[0]}")" && pwd)
 repository=$(dirname "$rust")
 
 # Everything that a build needs, for the archive that users link (x86-64, under an emulator where the
-# machine is of another kind) or for this machine's own (native). Exits with 77 where something can't
-# be had.
-ready() { # x86-64|native
+# machine is of another kind; c, where no Rust is built) or for this machine's own (native). Exits with
+# 77 where something can't be had.
+ready() { # c|x86-64|native
     bash "$rust/setup.sh" "$1" || exit $?
     # shellcheck disable=SC1090
     . "$rust/target/setup/$1"

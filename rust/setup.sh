@@ -1,15 +1,16 @@
 #!/usr/bin/env bash
-# setup.sh x86-64|native: makes ready what the Rust side needs, once. For both: the two Debian packages
-# that pdb's own files need.
-#   x86-64  a rustc that builds for x86-64, as the proved archive is, and an emulator elsewhere
+# setup.sh c|x86-64|native: makes ready what calls the proved archive, once.
+#   c       compilers of C and C++ for x86-64, as the proved archive is, and an emulator elsewhere
+#   x86-64  those, and a rustc that builds for x86-64
 #   native  a rustc for this machine whose LLVM is as new as the kit's, so that times can be compared
-# What it finds is written to target/setup/x86-64 or target/setup/native, which lib.sh reads.
+# The last two have the two Debian packages too that pdb's own files need, and the workspace with them.
+# What it finds is written to target/setup/c, x86-64 or native, which lib.sh reads.
 # Where something can't be had it prints one line that names it, and exits with 77. With
 # GILLACORN_INSTALL=no nothing is fetched or installed: what is not there can't be had.
 set -euo pipefail
 
 here=$(cd "$(dirname "$0")" && pwd)
-kind=${1:?"x86-64 or native"}
+kind=${1:?"c, x86-64 or native"}
 made=$here/target/setup
 target=x86_64-unknown-linux-gnu
 
@@ -18,6 +19,13 @@ missing() {
     exit 77
 }
 
+case $kind in
+c | x86-64 | native) ;;
+*)
+    echo "setup: c, x86-64 or native, not $kind" >&2
+    exit 2
+    ;;
+esac
 if [ -f "$made/$kind" ] && [ "$made/$kind" -nt "$0" ]; then
     exit 0
 fi
@@ -67,14 +75,49 @@ crate() { # a crate's name; its source goes to target/setup/crates
     cp -r "$(dirname "$found")" "$made/crates/$name"
 }
 
-crate scroll
-crate fallible-iterator
+if [ "$kind" != c ]; then
+    crate scroll
+    crate fallible-iterator
+fi
 
 # The kit, where there is one: its clang is the other side's compiler, and it has an emulator.
 tools=
 if kit=$(rt doc 2>/dev/null); then
     tools=${kit%/docs/*}/on/$(uname -m)/toolchain
 fi
+
+# ---- c: compilers for x86-64, and what runs its programs
+
+runner='' linker=cc cxx=c++
+for_c() {
+    if [ "$(uname -m)" = x86_64 ]; then
+        command -v cc >/dev/null && command -v c++ >/dev/null ||
+            install "compilers of C and C++" gcc g++ libc6-dev
+    else
+        linker=x86_64-linux-gnu-gcc cxx=x86_64-linux-gnu-g++
+        if ! command -v $linker >/dev/null || ! command -v $cxx >/dev/null ||
+            [ ! -f /usr/lib/x86_64-linux-gnu/libc.a ]; then
+            of_amd64 "compilers of C and C++ for x86-64" gcc-x86-64-linux-gnu g++-x86-64-linux-gnu libc6-dev:amd64
+        fi
+        if [ -x "$tools/bin/qemu-x86_64" ]; then
+            runner=$tools/bin/qemu-x86_64
+        else
+            runner=$(command -v qemu-x86_64 || command -v qemu-x86_64-static) ||
+                missing "an emulator for x86-64 (the kit's, or qemu-x86_64)"
+        fi
+    fi
+    echo "compile_c=$linker compile_cxx=$cxx"
+    [ -z "$runner" ] || echo "export GILLACORN_EMULATOR='$runner'"
+}
+
+of_amd64() { # as install, with packages of another processor
+    update "$1 (Debian: ${*:2})"
+    command -v dpkg >/dev/null || missing "dpkg (wanted: $1)"
+    echo "setup: having dpkg take amd64's packages on this machine" >&2
+    dpkg --add-architecture amd64 2>>"$made/apt.log" || missing "Debian's amd64 packages"
+    updated=
+    install "$@"
+}
 
 # ---- x86-64: a rustc with the standard library for it
 
@@ -98,31 +141,17 @@ find_rust() { # test
 }
 
 for_x86() {
-    local runner='' linker=cc cxx=c++ flags="-C target-feature=+crt-static"
-    if [ "$(uname -m)" = x86_64 ]; then
-        find_rust builds_x86 || { install "rustc and cargo" rustc cargo gcc libc6-dev && find_rust builds_x86; } ||
-            missing "a rustc that builds for x86-64"
-        command -v cc >/dev/null && command -v c++ >/dev/null ||
-            install "compilers for C and C++" gcc g++ libc6-dev
-    else
-        linker=x86_64-linux-gnu-gcc cxx=x86_64-linux-gnu-g++
-        if ! find_rust builds_x86 || ! command -v $linker >/dev/null || ! command -v $cxx >/dev/null ||
-            [ ! -f /usr/lib/x86_64-linux-gnu/libc.a ]; then
-            update "a rustc that builds for x86-64 (Debian: rustc cargo libstd-rust-dev:amd64)"
-            command -v dpkg >/dev/null || missing "dpkg (wanted: rustc for x86-64)"
-            echo "setup: having dpkg take amd64's packages on this machine" >&2
-            dpkg --add-architecture amd64 2>>"$made/apt.log" || missing "Debian's amd64 packages"
-            updated=
-            install "rustc with the x86-64 library" rustc cargo libstd-rust-dev:amd64 \
-                gcc-x86-64-linux-gnu g++-x86-64-linux-gnu libc6-dev:amd64 gcc libc6-dev
-            find_rust builds_x86 || missing "a rustc that builds for x86-64"
-        fi
-        if [ -x "$tools/bin/qemu-x86_64" ]; then
-            runner=$tools/bin/qemu-x86_64
+    local flags="-C target-feature=+crt-static"
+    for_c
+    if ! find_rust builds_x86; then
+        if [ "$(uname -m)" = x86_64 ]; then
+            install "rustc and cargo" rustc cargo
         else
-            runner=$(command -v qemu-x86_64 || command -v qemu-x86_64-static) ||
-                missing "an emulator for x86-64 (the kit's, or qemu-x86_64)"
+            of_amd64 "rustc with the x86-64 library" rustc cargo libstd-rust-dev:amd64 gcc libc6-dev
         fi
+        find_rust builds_x86 || missing "a rustc that builds for x86-64"
+    fi
+    if [ -n "$runner" ]; then
         # The emulator stops where a program reads /proc/self/maps, and Rust's start-up does so to
         # find the end of its stack. This stand-in tells it that the end is not known.
         echo 'int pthread_getattr_np(void) { return 38; }' >"$made/shim.c"
@@ -130,16 +159,13 @@ for_x86() {
         flags="$flags -C link-arg=$made/shim.o"
     fi
     cat <<END
-export CARGO='$rust/cargo' RUSTC='$rust/rustc' RUSTDOC='$rust/rustdoc' CARGO_NET_OFFLINE=true
 unset CARGO_TARGET_DIR
+export CARGO='$rust/cargo' RUSTC='$rust/rustc' RUSTDOC='$rust/rustdoc' CARGO_NET_OFFLINE=true
 export CARGO_BUILD_TARGET=$target CARGO_TARGET_X86_64_UNKNOWN_LINUX_GNU_LINKER='$linker'
 export RUSTFLAGS='$flags' RUSTDOCFLAGS='$flags'
-compile_c=$linker compile_cxx=$cxx
 built='$here/target/$target/release'
 END
-    [ -z "$runner" ] || cat <<END
-export CARGO_TARGET_X86_64_UNKNOWN_LINUX_GNU_RUNNER='$runner' GILLACORN_EMULATOR='$runner'
-END
+    [ -z "$runner" ] || echo "export CARGO_TARGET_X86_64_UNKNOWN_LINUX_GNU_RUNNER='$runner'"
 }
 
 # ---- native: a rustc as new as the kit's clang
@@ -186,8 +212,8 @@ END
 
 # In the shell itself and not in a pipe, so that "not to be had" ends it.
 case $kind in
+c) for_c >"$made/$kind.new" ;;
 x86-64) for_x86 >"$made/$kind.new" ;;
 native) for_native >"$made/$kind.new" ;;
-*) echo "setup: x86-64 or native, not $kind" >&2; exit 2 ;;
 esac
 mv "$made/$kind.new" "$made/$kind"

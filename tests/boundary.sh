@@ -1,12 +1,12 @@
 #!/usr/bin/env bash
-# boundary.sh [x86-64|native]: the boundary between C and the archive (boundary.c), on the archive that
+# boundary.sh [c|native]: the boundary between C and the archive (boundary.c), on the archive that
 # users link or on this machine's own; then over each stand-in with a planted fault, which the test has
 # to see in the group that the fault names.
 # Exits with 77, after one line, where a compiler for it can't be had.
 set -euo pipefail
 . "$(dirname "$0")/../rust/lib.sh"
 tests=$repository/tests
-ready "${1:-x86-64}"
+ready "${1:-c}"
 
 work=$(mktemp -d)
 trap 'rm -rf "$work"' EXIT

@@ -9,7 +9,7 @@ command -v pkg-config >/dev/null || {
     echo "c: not to be had: pkg-config (Debian: pkgconf)" >&2
     exit 77
 }
-ready x86-64
+ready c
 # shellcheck disable=SC2154 # compile_c, compile_cxx: of target/setup
 strict=(-Wall -Wextra -Werror -pedantic)
 work=$(mktemp -d)
