@@ -10,15 +10,16 @@ repository=$(dirname "$rust")
 # Everything that a build needs, for the archive that users link (x86-64, under an emulator where the
 # machine is of another kind; c, where no Rust is built) or for this machine's own (native). Exits with
 # 77 where something can't be had.
-ready() { # c|x86-64|native
-    bash "$rust/setup.sh" "$1" || exit $?
+ready() { # [c|x86-64|native]
+    local kind=${1:-x86-64}
+    bash "$rust/setup.sh" "$kind" || exit $?
     # shellcheck disable=SC1090
-    . "$rust/target/setup/$1"
+    . "$rust/target/setup/$kind"
     # A backtrace needs what the emulator does not give.
     export RUST_BACKTRACE=0
     if [ -n "${GILLACORN_LIB:-}" ]; then
         GILLACORN_LIB=$(cd "$GILLACORN_LIB" && pwd)
-    elif [ "$1" = native ] && [ "$(uname -m)" != x86_64 ]; then
+    elif [ "$kind" = native ] && [ "$(uname -m)" != x86_64 ]; then
         bash "$rust/native.sh" || exit $?
         GILLACORN_LIB=$rust/target/native
     else
@@ -45,14 +46,14 @@ archive() {
 }
 
 # pdb's own files, without which nothing can be compared; then as `ready`.
-ready_for_pdb() { # x86-64|native
+ready_for_pdb() { # [x86-64|native]
     PDB_SRC=$(cd "${PDB_SRC:-$repository/../shared/docs/src}" 2>/dev/null && pwd) || PDB_SRC=
     export PDB_SRC
     if [ ! -f "$PDB_SRC/src/omap.rs" ] && [ ! -f "$PDB_SRC/omap.rs" ]; then
         echo "setup: not to be had: the source of pdb 0.8.0 (PDB_SRC names its folder)" >&2
         exit 77
     fi
-    ready "$1"
+    ready "${1:-x86-64}"
 }
 
 cargo_here() { # what to do, then words for it

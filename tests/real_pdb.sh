@@ -11,7 +11,7 @@ for tool in clang lld-link llvm-pdbutil; do
         exit 77
     }
 done
-ready x86-64
+ready
 cargo_here build --release -p readers
 
 made=$rust/target/real_pdb

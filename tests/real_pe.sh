@@ -14,7 +14,7 @@ missing() {
 
 readobj=$(command -v llvm-readobj || compgen -c llvm-readobj- | sort -V | tail -n 1) || true
 [ -n "$readobj" ] || missing "llvm-readobj (Debian: llvm)"
-ready x86-64
+ready
 
 files=$rust/target/real_pe
 mkdir -p "$files"

@@ -4,7 +4,7 @@
 set -euo pipefail
 . "$(dirname "$0")/../rust/lib.sh"
 
-ready x86-64
+ready
 tests=(test -p gillacorn)
 if [ -n "${GILLACORN_EMULATOR:-}" ]; then
     # Examples in the documentation are run for another machine only if cargo is told so, and older
