@@ -1,3 +1,4 @@
+# shellcheck shell=bash
 # For the scripts of rust/ and tests/ (source it): what the Rust side needs, the proved archive, and a
 # build. Words that the caller may set:
 #   GILLACORN_LIB      a folder that has libgillacorn.a already; else it is made

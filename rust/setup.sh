@@ -91,8 +91,9 @@ fi
 runner='' linker=cc cxx=c++
 for_c() {
     if [ "$(uname -m)" = x86_64 ]; then
-        command -v cc >/dev/null && command -v c++ >/dev/null ||
+        if ! command -v cc >/dev/null || ! command -v c++ >/dev/null; then
             install "compilers of C and C++" gcc g++ libc6-dev
+        fi
     else
         linker=x86_64-linux-gnu-gcc cxx=x86_64-linux-gnu-g++
         if ! command -v $linker >/dev/null || ! command -v $cxx >/dev/null ||

@@ -2,6 +2,7 @@
 # What a C developer gets, as installed: the header in C and in C++ with every warning, a layout that
 # differs seen at compile time, and the example's answers, in C99 and in C++.
 # Exits with 77, after one line, where a compiler for x86-64 or pkg-config can't be had.
+# shellcheck disable=SC2154 # compile_c, compile_cxx: of target/setup
 set -euo pipefail
 . "$(dirname "$0")/../rust/lib.sh"
 
@@ -10,7 +11,6 @@ command -v pkg-config >/dev/null || {
     exit 77
 }
 ready c
-# shellcheck disable=SC2154 # compile_c, compile_cxx: of target/setup
 strict=(-Wall -Wextra -Werror -pedantic)
 work=$(mktemp -d)
 trap 'rm -rf "$work"' EXIT

@@ -1,3 +1,4 @@
+# shellcheck shell=bash
 # For the tests of the Rattle programs (source it): inputs in hex, and what `./run` makes of them.
 here=$(cd "$(dirname "${BASH_SOURCE[0]}")/.." && pwd)
 work=$(mktemp -d)
