@@ -9,4 +9,4 @@ ready_for_pdb native
 cargo_here build --release -p bench
 run bench "$@"
 echo
-echo "Measured on $(uname -m)$(lscpu 2>/dev/null | sed -n 's/^Model name: */, /p' | head -n 1) with $("$RUSTC" --version | cut -d ' ' -f 1,2) and $(rt version | cut -d ' ' -f 1): the time of one question, the least of 15 rounds or more, both sides in turn."
+echo "Measured on $(uname -m)$(lscpu 2>/dev/null | sed -n 's/^Model name: */, /p' | head -n 1) with $("$RUSTC" --version | cut -d ' ' -f 1,2) and $(rt version | cut -d ' ' -f 1): the processor time of one question, the least of 15 rounds or more, both sides in turn."
