@@ -1,17 +1,16 @@
-/* Gillacorn: address translation that is proved.
+/* Gillacorn: address translation that is proved. examples/example.c shows how it is called.
  *
- * Every answer begins with `code`: 0, a value is given; 1 to 6, the refusal of that number;
- * 255, none. Where no value is given the other fields are 0, unless the function says otherwise.
- * A table is lent as a pointer and a length in bytes; the pointer is never null, also where the
- * length is 0, and no alignment is asked. A table with a mark `has_..` or `present` is read only
- * where the mark is true. A refused call writes nothing.
+ * Every answer begins with `code`: GILLACORN_VALUE, GILLACORN_NONE or a refusal. Where no value is
+ * given the other fields are 0, unless the function says otherwise. Sentences below name refusals by
+ * their numbers, in the order in which they are tested.
  *
- *   1  a table's length is no multiple of its record
- *   2  it has more records than allowed
- *   3  a question that needs order meets a source (or code start) not greater than the one before
- *   4  a sum or product exceeds 4,294,967,295
- *   5  the result has more entries than the lent output holds; the needed number is told
- *   6  a cursor would translate a mapped piece that begins before its record's source
+ * Tables. A table is lent as a pointer and a length in bytes, and read during the call alone. No
+ * alignment is asked. Where the length is 0 nothing is read, and the pointer may be NULL. A table
+ * with a mark `has_..` or `present` is read only where the mark is true: false, NULL, 0 is absent.
+ * Every question reads what it needs anew: one that needs order reads the whole table.
+ *
+ * Outputs. A lent output is aligned as its type is, must not overlap a table, and may be NULL where
+ * it has no entries. A refused call writes nothing; entries past the result stay as they are.
  */
 #ifndef GILLACORN_H
 #define GILLACORN_H
@@ -24,10 +23,63 @@
 extern "C" {
 #endif
 
-#define GILLACORN_VALUE 0u
-#define GILLACORN_NONE 255u
+#define GILLACORN_VERSION_MAJOR 0
+#define GILLACORN_VERSION_MINOR 1
+#define GILLACORN_VERSION_PATCH 0
+#define GILLACORN_VERSION "0.1.0"
+
+/* ---- what `code` says ---- */
+
+#define GILLACORN_VALUE 0u  /* a value is given */
+#define GILLACORN_NONE 255u /* none: a hole, or nothing there */
+
+/* The refusals, given exactly when */
+enum gillacorn_refusal {
+    GILLACORN_LENGTH = 1,    /* a table's length is no multiple of its record */
+    GILLACORN_COUNT = 2,     /* it has more records than allowed */
+    GILLACORN_ORDER = 3,     /* a question that needs order meets a source (or code start) that is not
+                                greater than the one before it */
+    GILLACORN_TOO_LARGE = 4, /* an asked sum or product exceeds 4,294,967,295 */
+    GILLACORN_SHORT = 5,     /* the result has more entries than the lent output holds; the needed
+                                number is told */
+    GILLACORN_EARLY = 6      /* a cursor would translate a mapped piece that begins before its
+                                record's source */
+};
+
+/* A code as a person reads it; never NULL. */
+static inline const char *gillacorn_refusal_text(uint32_t code)
+{
+    switch (code) {
+    case GILLACORN_VALUE: return "not refused: a value";
+    case GILLACORN_NONE: return "not refused: none";
+    case GILLACORN_LENGTH: return "the table's length is no multiple of its record";
+    case GILLACORN_COUNT: return "the table has more records than allowed";
+    case GILLACORN_ORDER: return "the table is out of order";
+    case GILLACORN_TOO_LARGE: return "a sum or product exceeds 32 bits";
+    case GILLACORN_SHORT: return "the output is too small";
+    case GILLACORN_EARLY: return "a piece begins before the source of its record";
+    default: return "no code of this version";
+    }
+}
 
 typedef struct { uint32_t code; uint32_t value; } gillacorn_value_answer;
+
+/* A table that may be absent, for the structs of tables below. */
+typedef struct { bool present; const uint8_t *bytes; size_t length; } gillacorn_table;
+
+static inline gillacorn_table gillacorn_given(const uint8_t *bytes, size_t length)
+{
+    gillacorn_table table = {true, bytes, length};
+    return table;
+}
+
+static inline gillacorn_table gillacorn_absent(void)
+{
+    gillacorn_table table = {false, NULL, 0};
+    return table;
+}
+
+#define GILLACORN_SPREAD_TABLE(table) (table).present, (table).bytes, (table).length
 
 /* ---- section headers (pe) ---- */
 
@@ -76,23 +128,23 @@ gillacorn_value_answer gillacorn_lookup(bool present, const uint8_t *table, size
 
 /* The pieces of the window a..b, as pairs of start and excluded end in `out`; refusals 1, 2, 3, 4,
  * then 5. `pieces` is their number, also with code 5, where it is the number needed. */
-gillacorn_pieces_answer gillacorn_lookup_range(bool present, const uint8_t *table, size_t length,
-                                               uint32_t a, uint32_t b, uint32_t *out, size_t places);
+gillacorn_pieces_answer gillacorn_window(bool present, const uint8_t *table, size_t length,
+                                        uint32_t a, uint32_t b, uint32_t *out, size_t places);
 
 /* A cursor over the pieces of a..b: 1, 2, 3, or the cursor. */
 gillacorn_cursor_answer gillacorn_cursor_start(bool present, const uint8_t *table, size_t length,
-                                               uint32_t a, uint32_t b);
+                                         uint32_t a, uint32_t b);
 
 /* The next piece and the next cursor; none and the cursor left behind; or 1, 2, 6, 4 and the
  * cursor unchanged. Any table, in order or not. */
 gillacorn_step_answer gillacorn_cursor_step(gillacorn_cursor cursor, bool present, const uint8_t *table,
-                                            size_t length);
+                                     size_t length);
 
 typedef struct { uint32_t start, end; } gillacorn_piece;
 
-/* As gillacorn_lookup_range, into a list of records. */
+/* As gillacorn_window, into a list of records. */
 gillacorn_pieces_answer gillacorn_list(bool present, const uint8_t *table, size_t length, uint32_t a,
-                                       uint32_t b, gillacorn_piece *list, size_t records);
+                                uint32_t b, gillacorn_piece *list, size_t records);
 
 /* ---- clash and way back ---- */
 
@@ -100,13 +152,14 @@ typedef struct { uint32_t code; uint32_t first, second; } gillacorn_pair_answer;
 typedef struct { uint32_t code; uint32_t sources; uint32_t first, second; } gillacorn_sources_answer;
 
 /* The least pair of window addresses with one translation; none where the window is single; or
- * 1, 2, 3, 4. */
+ * 1, 2, 3, 4. Each piece is compared with each later one: the time grows with the square of the
+ * pieces (docs/PERFORMANCE.md has it measured). */
 gillacorn_pair_answer gillacorn_clash(const uint8_t *table, size_t length, uint32_t a, uint32_t b);
 
 /* The addresses of a..b that translate to t: none, the one (`sources` 1), or the two least
  * (`sources` 2); or 1, 2, 3, 4. */
 gillacorn_sources_answer gillacorn_way_back(const uint8_t *table, size_t length, uint32_t a, uint32_t b,
-                                            uint32_t t);
+                                     uint32_t t);
 
 /* ---- sections and the address map ---- */
 
@@ -117,7 +170,7 @@ gillacorn_offset_answer gillacorn_section_offset(const uint8_t *table, size_t le
 
 /* The address of an offset in a section; none for section 0 and past the last; or 1, 2, 4. */
 gillacorn_value_answer gillacorn_virtual_address(const uint8_t *table, size_t length, uint16_t section,
-                                                 uint32_t offset);
+                                          uint32_t offset);
 
 /* The four tables of an address map, each behind its mark. */
 #define GILLACORN_MAP                                                                     \
@@ -125,6 +178,16 @@ gillacorn_value_answer gillacorn_virtual_address(const uint8_t *table, size_t le
     bool has_transformed_sections, const uint8_t *transformed_sections, size_t transformed_length, \
     bool has_to_original, const uint8_t *to_original, size_t to_original_length,          \
     bool has_to_transformed, const uint8_t *to_transformed, size_t to_transformed_length
+
+/* The same as one struct, and what spreads it: gillacorn_offset_to_rva(1, 0x10, GILLACORN_SPREAD_MAP(map)).
+ * The macro reads its argument several times. */
+typedef struct {
+    gillacorn_table original_sections, transformed_sections, to_original, to_transformed;
+} gillacorn_map;
+
+#define GILLACORN_SPREAD_MAP(map)                                                                   \
+    GILLACORN_SPREAD_TABLE((map).original_sections), GILLACORN_SPREAD_TABLE((map).transformed_sections), \
+    GILLACORN_SPREAD_TABLE((map).to_original), GILLACORN_SPREAD_TABLE((map).to_transformed)
 
 /* Each conversion reads the tables on its path alone, in this order, and refuses at the first step
  * that fails; none stops it. Absent original sections count as none. "Actual sections" are the
@@ -170,8 +233,15 @@ gillacorn_offset_answer gillacorn_internal_offset_to_section_offset(uint16_t sec
 
 /* ---- frames ---- */
 
-/* ty: 0 FPO, 1 Trap, 2 TSS, 3 Standard, 4 FrameData. max_stack_size and program count only where
- * their mark is true. */
+enum gillacorn_frame_type {
+    GILLACORN_FRAME_FPO = 0,
+    GILLACORN_FRAME_TRAP = 1,
+    GILLACORN_FRAME_TSS = 2,
+    GILLACORN_FRAME_STANDARD = 3,
+    GILLACORN_FRAME_DATA = 4
+};
+
+/* ty is a gillacorn_frame_type. max_stack_size and program count only where their mark is true. */
 typedef struct {
     uint32_t ty, code_start, code_size, locals_size, params_size;
     uint16_t prolog_size, saved_regs_size;
@@ -189,6 +259,12 @@ typedef struct { uint32_t code; gillacorn_frame frame; gillacorn_frame_cursor cu
     bool has_old, const uint8_t *old_frames, size_t old_length,       \
     bool has_new, const uint8_t *new_frames, size_t new_length
 
+/* The same as one struct, and what spreads it, as GILLACORN_SPREAD_MAP does. */
+typedef struct { gillacorn_table old_frames, new_frames; } gillacorn_frame_tables;
+
+#define GILLACORN_SPREAD_FRAMES(tables) \
+    GILLACORN_SPREAD_TABLE((tables).old_frames), GILLACORN_SPREAD_TABLE((tables).new_frames)
+
 /* The frame at a place of one table. None past the last; 1, 2; an old frame's locals may give 4. */
 gillacorn_frame_answer gillacorn_old_frame(const uint8_t *table, size_t length, size_t place);
 gillacorn_frame_answer gillacorn_new_frame(const uint8_t *table, size_t length, size_t place);
@@ -200,8 +276,11 @@ gillacorn_frame_step_answer gillacorn_frame_next(gillacorn_frame_cursor cursor, 
 /* The cursor that starts at an address; or 1, 2, 3 of old, then of new. */
 gillacorn_frame_cursor_answer gillacorn_frames_at(uint32_t address, GILLACORN_FRAMES);
 
-/* 1 if there is no frame, else 0; or 1, 2 of old, then of new. */
+/* Whether both tables are without a frame: `value` is 1 where they are, and 0 where there is a frame;
+ * or refused with 1 or 2, of old, then of new. */
 gillacorn_value_answer gillacorn_frames_empty(GILLACORN_FRAMES);
+
+#include "gillacorn_layout.h"
 
 #ifdef __cplusplus
 }

@@ -20,6 +20,8 @@ files=$rust/target/real_pe
 mkdir -p "$files"
 for package in $packages; do
     [ -d "$files/$package" ] && continue
+    [ "${GILLACORN_INSTALL:-yes}" != no ] || missing "Debian's $package, without fetching"
+    echo "real_pe: fetching Debian's $package into rust/target/real_pe" >&2
     (cd "$files" && apt-get download "$package" >apt.log 2>&1) || missing "Debian's $package"
     dpkg-deb -x "$files/$package"_*.deb "$files/$package"
 done

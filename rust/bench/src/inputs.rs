@@ -1,5 +1,12 @@
 //! Tables of a given size, in order, and addresses spread over them.
 
+pub const MOST: usize = 1_048_576;
+/// The three sizes of OMAP and frame tables, in records, and those of section tables.
+pub const SIZES: [usize; 3] = [1, 1_000, MOST];
+pub const HEADERS: [usize; 3] = [5, 96, 65_535];
+/// The size of a section, and of the part of it that is in the file.
+pub const SECTION: u32 = 0x1000;
+
 fn put(record: &mut [u8], at: usize, number: u32) {
     record[at..at + 4].copy_from_slice(&number.to_le_bytes());
 }
@@ -12,20 +19,32 @@ fn table(width: usize, records: usize, fill: impl Fn(u32, &mut [u8])) -> Vec<u8>
     table
 }
 
-/// Records of 16 bytes each, moved about; one in eight is a hole.
-pub fn omap(records: usize) -> Vec<u8> {
+/// Where the first record of an OMAP begins, and how far apart they are.
+const FIRST: u32 = 0x100;
+const APART: u32 = 16;
+
+/// Records moved about under an end; one in eight is a hole, but not the first.
+pub fn omap(records: usize, end: u32) -> Vec<u8> {
     table(8, records, |place, record| {
-        put(record, 0, 0x100 + place * 16);
-        let moved = place.wrapping_mul(0x9e37_79b1) >> 6;
+        put(record, 0, FIRST + place * APART);
+        let moved = (place.wrapping_mul(0x9e37_79b1) >> 6) % (end - 1);
         put(record, 4, if place % 8 == 5 { 0 } else { 1 + moved });
     })
+}
+
+/// An end of targets that keeps sums far below 32 bits.
+pub const FAR: u32 = 1 << 26;
+
+/// The addresses that the records of an OMAP own, and as many again of the last one.
+pub fn omap_window(records: usize) -> std::ops::Range<u32> {
+    FIRST..FIRST + APART * records as u32
 }
 
 /// A window that is single: pieces that touch in no target, in an order far from their sources'.
 pub fn apart(pieces: usize) -> Vec<u8> {
     let mut table = table(8, pieces + 1, |place, record| {
         put(record, 0, 1 + place * 16);
-        // 7919 is prime to each power of ten: every place once.
+        // 7919 is prime to each of the sizes: every place once.
         let moved = (u64::from(place) * 7919 % pieces as u64) as u32;
         put(record, 4, 0x1000 + moved * 16);
     });
@@ -34,10 +53,12 @@ pub fn apart(pieces: usize) -> Vec<u8> {
     table
 }
 
-pub fn sections(headers: usize) -> Vec<u8> {
+pub fn sections(headers: usize, name: &[u8]) -> Vec<u8> {
     table(40, headers, |place, record| {
-        put(record, 12, place * 0x1000);
-        put(record, 16, 0xf00);
+        record[..name.len()].copy_from_slice(name);
+        put(record, 12, place * SECTION);
+        put(record, 16, SECTION);
+        put(record, 36, 0x6050_0020 ^ place << 8);
     })
 }
 
@@ -51,14 +72,23 @@ pub fn frames(width: usize, records: usize) -> Vec<u8> {
     })
 }
 
-/// Addresses under an end, the same on each call.
-pub fn addresses(count: usize, end: u32) -> Vec<u32> {
+/// Numbers of a range, the same on each call.
+pub fn numbers(count: usize, range: std::ops::Range<u32>) -> Vec<u32> {
     let mut state = 1u64;
     let next = |_| {
         state = state
             .wrapping_mul(6_364_136_223_846_793_005)
             .wrapping_add(1);
-        ((state >> 32) as u32) % end
+        range.start + ((state >> 32) as u32) % (range.end - range.start)
     };
     (0..count).map(next).collect()
+}
+
+/// Fewer questions where each reads a large table.
+pub fn questions(records: usize) -> usize {
+    if records > 10_000 {
+        20
+    } else {
+        2_000
+    }
 }

@@ -176,7 +176,7 @@ over_lent! {
 }
 
 over_window! {
-    window = gillacorn_lookup_range(u32) -> PiecesAnswer;
+    window = gillacorn_window(u32) -> PiecesAnswer;
     list = gillacorn_list(Piece) -> PiecesAnswer;
 }
 

@@ -1,8 +1,8 @@
 #!/usr/bin/env bash
-# The wrapper's own tests and the examples in its documentation, what a build says that can't link,
-# and the C example.
+# The wrapper's own tests and the examples in its documentation, and what a build says that can't link.
+# Exits with 77, after one line, where the Rust can't be built here.
 set -euo pipefail
-. "$(dirname "$0")/lib.sh"
+. "$(dirname "$0")/../rust/lib.sh"
 
 ready
 tests=(test -p gillacorn)
@@ -20,11 +20,6 @@ cargo_here check -p gillacorn --no-default-features --features alloc
 
 work=$(mktemp -d)
 trap 'rm -rf "$work"' EXIT
-
-same() { # what it is, its output, and what is expected on standard input
-    diff "$2" - || { echo "$1: other than expected" >&2; exit 1; }
-    echo "$1: $(wc -l <"$2") lines as they should be"
-}
 
 # What a build says that can't link: one sentence of build.rs, and no word of a linker.
 refused_build() { # what it is, words of the sentence, then words for cargo
@@ -48,19 +43,3 @@ refused_build() { # what it is, words of the sentence, then words for cargo
     refused_build "build for another machine" "this build is for aarch64" \
         --target aarch64-unknown-linux-gnu
 )
-
-"$CARGO_TARGET_X86_64_UNKNOWN_LINUX_GNU_LINKER" -std=c99 -Wall -Wextra -pedantic -static -O2 \
-    -I "$repository/include" "$repository/tests/example.c" "$GILLACORN_LIB/libgillacorn.a" \
-    -o "$work/example"
-${GILLACORN_EMULATOR:-} "$work/example" >"$work/said"
-same "example (C)" "$work/said" <<'EOF'
-00000FFF hole
-000010FF 000050FF
-00001100 hole
-FFFFFFFF refused 4
-00005000 00005100
-00004000 00004100
-00005080 00005180
-pieces 3
-refused 5, 3 needed
-EOF

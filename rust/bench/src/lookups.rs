@@ -1,0 +1,104 @@
+//! Single translations, and what they are made of: the order check and the search.
+
+use oracle::Tables;
+
+use crate::driver::{all, many, told, Driver};
+use crate::face::{self, gillacorn_lookup, gillacorn_record_at};
+use crate::inputs::{numbers, omap, omap_window, questions, FAR, SIZES};
+
+pub fn run(driver: &mut Driver) {
+    driver.topic("Lookups");
+    record(driver);
+    for records in SIZES {
+        let bytes = omap(records, FAR);
+        let tables = Tables::new(&[Some(&bytes)]);
+        let theirs = tables.omap(0).unwrap();
+        let asked = numbers(questions(records), omap_window(records));
+        driver.row(
+            &format!("lookup, {}", many(records, "record")),
+            asked.len(),
+            || {
+                all(&asked, |a| {
+                    let given = gillacorn_lookup(true, &bytes, a);
+                    assert!(given.code == 0 || given.code == 255);
+                    told((given.code == 0).then_some(given.value))
+                })
+            },
+            || all(&asked, |a| told(theirs.lookup(a))),
+        );
+    }
+    search(driver);
+    order(driver);
+}
+
+fn record(driver: &mut Driver) {
+    let bytes = omap(1_000, FAR);
+    let asked = numbers(2_000, 0..1_000);
+    driver.ours("record at a place", asked.len(), || {
+        all(&asked, |place| {
+            let given = gillacorn_record_at(&bytes, place as usize);
+            u64::from(given.source) << 32 | u64::from(given.target)
+        })
+    });
+}
+
+/// The search by itself, with what a lookup does after it, since pdb's does that too.
+fn search(driver: &mut Driver) {
+    #[cfg(not(inner = "search"))]
+    driver.left_out("search alone", NO_INNER);
+    #[cfg(inner = "search")]
+    for records in SIZES {
+        let bytes = omap(records, FAR);
+        let tables = Tables::new(&[Some(&bytes)]);
+        let theirs = tables.omap(0).unwrap();
+        let asked = numbers(2_000, omap_window(records));
+        driver.row(
+            &format!("search alone, {}", many(records, "record")),
+            asked.len(),
+            || {
+                all(&asked, |a| {
+                    let before = face::inner_search(&bytes, a);
+                    told(before.checked_sub(1).and_then(|place| {
+                        let record = &bytes[8 * place..8 * place + 8];
+                        let [source, target] = [word(&record[..4]), word(&record[4..])];
+                        (target != 0).then(|| a - source + target)
+                    }))
+                })
+            },
+            || all(&asked, |a| told(theirs.lookup(a))),
+        );
+    }
+}
+
+/// The order check by itself, beside the least that a reader of the same bytes does.
+fn order(driver: &mut Driver) {
+    #[cfg(not(inner = "order"))]
+    driver.left_out("order check alone", NO_INNER);
+    #[cfg(inner = "order")]
+    for records in SIZES {
+        let bytes = omap(records, FAR);
+        let mut disordered = [bytes.clone(), bytes.clone()].concat();
+        disordered.truncate(8 * records + 8);
+        assert!(face::inner_order(&bytes) && !face::inner_order(&disordered));
+        driver.limit(
+            &format!(
+                "order check alone, {}, a record (right: a plain sum of the bytes)",
+                many(records, "record")
+            ),
+            records,
+            || u64::from(face::inner_order(std::hint::black_box(&bytes))),
+            || {
+                let words = std::hint::black_box(&bytes).chunks_exact(4);
+                u64::from(words.fold(0, |sum: u32, four| sum.wrapping_add(word(four))))
+            },
+        );
+    }
+}
+
+#[cfg(any(inner = "order", inner = "search"))]
+fn word(bytes: &[u8]) -> u32 {
+    u32::from_le_bytes(bytes.try_into().unwrap())
+}
+
+#[cfg(not(all(inner = "order", inner = "search")))]
+const NO_INNER: &str = "rust/native.sh gave no inner function for it";

@@ -1,0 +1,104 @@
+/* Stand-ins before the archive, each with one fault of the kind that a group of boundary.c has to see:
+ * -DFAULT=n takes the n-th. The line `fault n: group` is what boundary.sh reads. */
+
+#if FAULT == 1 /* fault 1: after */
+/* Reads one byte past the table. */
+static gillacorn_value_answer faulty(bool present, const uint8_t *table, size_t length, uint32_t address)
+{
+    if (present && length > 0)
+        (void)((const volatile uint8_t *)table)[length];
+    return gillacorn_lookup(present, table, length, address);
+}
+#define gillacorn_lookup faulty
+
+#elif FAULT == 2 /* fault 2: before */
+/* Reads one byte before the table. */
+static gillacorn_offset_answer faulty(const uint8_t *table, size_t length, uint32_t address)
+{
+    if (length > 0)
+        (void)((const volatile uint8_t *)table)[-1];
+    return gillacorn_section_offset(table, length, address);
+}
+#define gillacorn_section_offset faulty
+
+#elif FAULT == 3 /* fault 3: unaligned */
+/* Takes a table to begin at a multiple of 4. */
+static gillacorn_frame_answer faulty(const uint8_t *table, size_t length, size_t place)
+{
+    return gillacorn_new_frame((const uint8_t *)((uintptr_t)table / 4 * 4), length, place);
+}
+#define gillacorn_new_frame faulty
+
+#elif FAULT == 4 /* fault 4: empty */
+/* Reads a table that has no bytes. */
+static gillacorn_header_answer faulty(const uint8_t *table, size_t length, size_t place)
+{
+    (void)*(const volatile uint8_t *)table;
+    return gillacorn_header(table, length, place);
+}
+#define gillacorn_header faulty
+
+#elif FAULT == 5 /* fault 5: absent */
+/* Reads a table that its mark says is absent. */
+static gillacorn_value_answer faulty(GILLACORN_FRAMES)
+{
+    if (new_length > 0)
+        (void)*(const volatile uint8_t *)new_frames;
+    return gillacorn_frames_empty(has_old, old_frames, old_length, has_new, new_frames, new_length);
+}
+#define gillacorn_frames_empty faulty
+
+#elif FAULT == 6 /* fault 6: refused */
+/* Writes before it refuses. */
+static gillacorn_pieces_answer faulty(bool present, const uint8_t *table, size_t length, uint32_t a,
+                               uint32_t b, uint32_t *out, size_t places)
+{
+    gillacorn_pieces_answer given = gillacorn_window(present, table, length, a, b, out, places);
+    if (given.code == GILLACORN_SHORT && places > 0)
+        out[0] = 0;
+    return given;
+}
+#define gillacorn_window faulty
+
+#elif FAULT == 7 /* fault 7: output */
+/* Writes one entry more than the result has, where there is room. */
+static gillacorn_pieces_answer faulty(bool present, const uint8_t *table, size_t length, uint32_t a,
+                               uint32_t b, gillacorn_piece *list, size_t records)
+{
+    gillacorn_pieces_answer given = gillacorn_list(present, table, length, a, b, list, records);
+    if (given.code == GILLACORN_VALUE && given.pieces < records)
+        list[given.pieces].start = 0;
+    return given;
+}
+#define gillacorn_list faulty
+
+#elif FAULT == 8 /* fault 8: upper bits */
+/* Takes the whole register for its section number. */
+static gillacorn_value_answer faulty(uint64_t section, uint32_t offset, GILLACORN_MAP)
+{
+    return gillacorn_offset_to_rva(
+        section > 0xFFFF ? 0 : (uint16_t)section, offset, has_original_sections, original_sections,
+        original_length, has_transformed_sections, transformed_sections, transformed_length,
+        has_to_original, to_original, to_original_length, has_to_transformed, to_transformed,
+        to_transformed_length);
+}
+#define gillacorn_offset_to_rva faulty
+
+#elif FAULT == 9 /* fault 9: upper bits */
+/* Takes the whole register for a mark. */
+static gillacorn_cursor_answer faulty(uint64_t present, const uint8_t *table, size_t length, uint32_t a, uint32_t b)
+{
+    return gillacorn_cursor_start(present == 1, table, length, a, b);
+}
+#define gillacorn_cursor_start faulty
+
+#elif FAULT == 10 /* fault 10: ordinary */
+/* Writes to a table. */
+static gillacorn_pair_answer faulty(const uint8_t *table, size_t length, uint32_t a, uint32_t b)
+{
+    if (length > 0)
+        ((volatile uint8_t *)(uintptr_t)table)[0] = table[0];
+    return gillacorn_clash(table, length, a, b);
+}
+#define gillacorn_clash faulty
+#endif
