@@ -2,7 +2,7 @@
 ghost use mathlib.Core.Path.{_≡_};
 ghost use Rattle.clash.specs.Clash.{clashSpec, backSpec};
 ghost use Rattle.gillacorn.specs.Clashes.{pairAnswer, sourcesAnswer};
-use crate::told::T;
+use crate::expected::T;
 use check::expect;
 use gillacorn::clashes::gillacorn_clash;
 use gillacorn::clashes::gillacorn_way_back;

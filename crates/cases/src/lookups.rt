@@ -3,9 +3,9 @@ ghost use mathlib.Core.Path.{_≡_};
 ghost use mathlib.Core.Bool.{true};
 ghost use Rattle.omap.specs.Lookup.{lookupSpec};
 ghost use Rattle.gillacorn.specs.Code.{valueAnswer};
-use crate::told::T;
-use crate::told::is;
-use gillacorn::tables::gillacorn_lookup;
+use crate::expected::T;
+use crate::expected::is;
+use gillacorn::lookups::gillacorn_lookup;
 
 // The translation of an address by a present table.
 fn translates(table: &[u8], address: u32, code: u32, value: u32)

@@ -2,11 +2,11 @@
 // so that the check proves it by computation from the definitions; the call then asks the face, and
 // the run compares once more. Codes: 0 a value, 255 none, else the refusal. Addresses are hex, as in
 // the document.
+mod addresses;
 mod clashes;
+mod expected;
 mod frames;
 mod lookups;
-mod sections;
-mod told;
 mod windows;
 
 fn main() {
@@ -14,7 +14,7 @@ fn main() {
     windows::all();
     windows::addresses();
     clashes::all();
-    sections::all();
+    addresses::all();
     frames::merged();
     frames::begun();
     frames::attributes();

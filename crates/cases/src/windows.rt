@@ -3,11 +3,11 @@
 ghost use mathlib.Core.Path.{_≡_};
 ghost use mathlib.Core.Bool.{true};
 ghost use Rattle.omap.specs.Output.{windowSpec, windowOut};
-ghost use Rattle.gillacorn.specs.Tables.{piecesAnswer};
+ghost use Rattle.gillacorn.specs.Windows.{piecesAnswer};
 ghost use Rattle.cases.specs.Lent.{nines};
-use crate::told::T;
+use crate::expected::T;
 use check::expect;
-use gillacorn::tables::gillacorn_lookup_range;
+use gillacorn::windows::gillacorn_window;
 
 // The pieces of T in 0800..1400.
 const THREE: [u32; 7] = [0x5000, 0x5100, 0x4000, 0x4100, 0x5080, 0x5180, 9];
@@ -33,7 +33,7 @@ fn shows(table: &[u8], a: u32, b: u32, code: u32, pieces: usize, left: &[u32; 7]
     requires { ⌜ (piecesAnswer (windowSpec true (now table) a b 3) ≡ record { code = code; pieces = pieces }) × (windowOut true (now table) a b nines ≡ now left) ⌝ }
 {
     let mut out = [9u32; 7];
-    let told = gillacorn_lookup_range(true, table, a, b, &mut out);
+    let told = gillacorn_window(true, table, a, b, &mut out);
     expect(told.code == code);
     expect(told.pieces == pieces);
     same(&out, left);

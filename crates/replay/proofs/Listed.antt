@@ -1,5 +1,5 @@
 -- The lent list of records holds what the flat output holds: `pairs-of-list`. So an answer that fits the contract of
--- `lookup_range` or of the reader's `drain`, into two places for each record, is that of the list.
+-- `window` or of the reader's `drain`, into two places for each record, is that of the list.
 -- Assumes nothing.
 use mathlib.Core.Path.{_≡_, refl, ap, sym, _∙_}
 use Prim.Native.Nat.{ℕ, zero, suc, _+_, _/_}
@@ -7,7 +7,7 @@ use native.Mathlib.Omega.{arith}
 use mathlib.Core.Bool.{Bool}
 use mathlib.Core.List.{List, [], _∷_, _++_, map}
 use lib.ListN.{length, drop}
-use Rattle.omap.specs.Window as window
+use Rattle.omap.specs.declared.walk.Piece as walk
 use Rattle.omap.specs.Window.{windowPieces}
 use Rattle.omap.specs.Output.{flat, Window, counted, refusedAs, refusedFor, outAfter, windowSpec, windowOut}
 use Rattle.ranges.specs.Shown.{asPiece, listOut}
@@ -38,13 +38,13 @@ pairs-half : (l : List Piece) → length (pairs l) / 2 ≡ length l
 pairs-half l = omega (arith, pairs-length l)
 
 -- a window's records as pairs are its pieces as pairs
-pairs-flat : (l : List window.Piece) → pairs (map asPiece l) ≡ flat l
+pairs-flat : (l : List walk.Piece) → pairs (map asPiece l) ≡ flat l
 unfolding pairs flat
 pairs-flat [] = refl
 pairs-flat (p ∷ l) = rw (pairs-flat l)
 
 -- what a call leaves in records, as pairs, is what it leaves in their places
-pairs-after : (w : Window) (l : List window.Piece) (out : List Piece) → pairs (outAfter w (map asPiece l) out) ≡ outAfter w (flat l) (pairs out)
+pairs-after : (w : Window) (l : List walk.Piece) (out : List Piece) → pairs (outAfter w (map asPiece l) out) ≡ outAfter w (flat l) (pairs out)
 pairs-after (counted n) l out =
     let e : length (map asPiece l) + length (map asPiece l) ≡ length (flat l) = sym (pairs-length (map asPiece l)) ∙ ap length (pairs-flat l) in
     rw (pairs-append, pairs-drop, e, pairs-flat)

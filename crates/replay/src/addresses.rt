@@ -1,4 +1,5 @@
 // Sections and the conversions of an address map: operations 13, 14 and 20 to 31.
+use crate::comparison::Comparison;
 use crate::input::Table;
 use crate::input::after;
 use crate::input::bytes;
@@ -6,8 +7,6 @@ use crate::input::present_at;
 use crate::input::table_at;
 use crate::input::u16_at;
 use crate::input::u32_at;
-use crate::told::Told;
-use gillacorn::addresses::OffsetAnswer;
 use gillacorn::addresses::gillacorn_internal_offset_to_internal_rva;
 use gillacorn::addresses::gillacorn_internal_offset_to_rva;
 use gillacorn::addresses::gillacorn_internal_offset_to_section_offset;
@@ -20,23 +19,24 @@ use gillacorn::addresses::gillacorn_offset_to_rva;
 use gillacorn::addresses::gillacorn_rva_to_internal_offset;
 use gillacorn::addresses::gillacorn_rva_to_internal_rva;
 use gillacorn::addresses::gillacorn_rva_to_section_offset;
-use gillacorn::addresses::gillacorn_section_offset;
-use gillacorn::addresses::gillacorn_virtual_address;
 use gillacorn::code::ValueAnswer;
+use gillacorn::sections::OffsetAnswer;
+use gillacorn::sections::gillacorn_section_offset;
+use gillacorn::sections::gillacorn_virtual_address;
 
-pub(crate) fn section_offset(s: &[u8]) -> Told {
+pub(crate) fn section_offset(s: &[u8]) -> Comparison {
     let table = present_at(s, 1);
     let at = table.to;
     let ours = gillacorn_section_offset(bytes(s, table), u32_at(s, at));
     offset_told(s, after(at, 4), ours)
 }
 
-pub(crate) fn virtual_address(s: &[u8]) -> Told {
+pub(crate) fn virtual_address(s: &[u8]) -> Comparison {
     let table = present_at(s, 1);
     let at = table.to;
     let offset = u32_at(s, after(at, 2));
     let ours = gillacorn_virtual_address(bytes(s, table), u16_at(s, at), offset);
-    crate::told::code(s, after(at, 6), ours.code).u32(s, ours.value)
+    crate::comparison::code(s, after(at, 6), ours.code).u32(s, ours.value)
 }
 
 // What each conversion is asked: its four tables, a section, and an offset or an address.
@@ -71,7 +71,7 @@ fn asked_in(s: &[u8]) -> Asked {
 }
 
 // An operation from 20 on, in the order of the face.
-pub(crate) fn conversion(s: &[u8], operation: u8) -> Told {
+pub(crate) fn conversion(s: &[u8], operation: u8) -> Comparison {
     let asked = asked_in(s);
     offset_told(s, asked.end, converted(s, asked, operation))
 }
@@ -85,8 +85,8 @@ fn plain(ours: ValueAnswer) -> OffsetAnswer {
     }
 }
 
-fn offset_told(s: &[u8], at: usize, ours: OffsetAnswer) -> Told {
-    let told = crate::told::code(s, at, ours.code);
+fn offset_told(s: &[u8], at: usize, ours: OffsetAnswer) -> Comparison {
+    let told = crate::comparison::code(s, at, ours.code);
     told.u16(s, ours.section).u32(s, ours.offset)
 }
 

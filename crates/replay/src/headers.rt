@@ -1,24 +1,24 @@
 // Section headers: operations 1 to 4.
+use crate::comparison::Comparison;
+use crate::comparison::bits;
 use crate::input::after;
 use crate::input::bytes;
 use crate::input::present_at;
 use crate::input::u16_at;
 use crate::input::u32_at;
-use crate::told::Told;
-use crate::told::bits;
 use gillacorn::headers::gillacorn_alignment;
 use gillacorn::headers::gillacorn_characteristics;
 use gillacorn::headers::gillacorn_header;
 use gillacorn::headers::gillacorn_name_length;
 
-pub(crate) fn header(s: &[u8]) -> Told {
+pub(crate) fn header(s: &[u8]) -> Comparison {
     let table = present_at(s, 1);
     let at = table.to;
     let place = u32_at(s, at) as usize;
     let ours = gillacorn_header(bytes(s, table), place);
     let header = ours.header;
     let name = header.name;
-    let told = crate::told::code(s, after(at, 4), ours.code);
+    let told = crate::comparison::code(s, after(at, 4), ours.code);
     let told = told.u8(s, name[0])
         .u8(s, name[1])
         .u8(s, name[2])
@@ -38,14 +38,14 @@ pub(crate) fn header(s: &[u8]) -> Told {
     told.u32(s, header.characteristics.0)
 }
 
-pub(crate) fn name(s: &[u8]) -> Told {
+pub(crate) fn name(s: &[u8]) -> Comparison {
     let table = present_at(s, 1);
     let at = table.to;
     let ours = gillacorn_name_length(bytes(s, table), u16_at(s, at));
-    crate::told::from(after(at, 2)).length(s, ours)
+    crate::comparison::from(after(at, 2)).length(s, ours)
 }
 
-pub(crate) fn flags(s: &[u8]) -> Told {
+pub(crate) fn flags(s: &[u8]) -> Comparison {
     let ours = gillacorn_characteristics(u32_at(s, 1));
     let marks = [
         ours.executable,
@@ -69,10 +69,10 @@ pub(crate) fn flags(s: &[u8]) -> Told {
         ours.read,
         ours.write,
     ];
-    crate::told::from(5).u32(s, bits(&marks))
+    crate::comparison::from(5).u32(s, bits(&marks))
 }
 
-pub(crate) fn alignment(s: &[u8]) -> Told {
+pub(crate) fn alignment(s: &[u8]) -> Comparison {
     let ours = gillacorn_alignment(u32_at(s, 1));
-    crate::told::code(s, 5, ours.code).u32(s, ours.value)
+    crate::comparison::code(s, 5, ours.code).u32(s, ours.value)
 }

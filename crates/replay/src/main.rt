@@ -3,18 +3,19 @@
 // it is made.
 mod addresses;
 mod clashes;
+mod comparison;
 mod frames;
 mod headers;
 mod input;
 mod lists;
+mod lookups;
 mod names;
 mod report;
-mod tables;
-mod told;
+mod windows;
 
 ghost use mathlib.Core.Path.{_≡_};
 ghost use lib.ListN.{length};
-use told::Told;
+use comparison::Comparison;
 
 // A file has fewer bytes than this.
 const MOST: usize = 1048576;
@@ -26,20 +27,20 @@ fn buffer() -> [u8; MOST]
 }
 
 // Our answer to the case `s` of an operation, compared.
-fn compared(operation: u8, s: &[u8]) -> Told {
+fn compared(operation: u8, s: &[u8]) -> Comparison {
     if 2 < input::u8_at(s, 0) {
-        return told::broken();
+        return comparison::broken();
     }
     match operation {
         1 => headers::header(s),
         2 => headers::name(s),
         3 => headers::flags(s),
         4 => headers::alignment(s),
-        5 => tables::record_at(s),
-        6 => tables::lookup(s),
-        7 => tables::lookup_range(s),
-        8 => tables::cursor_start(s),
-        9 => tables::cursor_step(s),
+        5 => lookups::record_at(s),
+        6 => lookups::lookup(s),
+        7 => windows::window(s),
+        8 => windows::cursor_start(s),
+        9 => windows::cursor_step(s),
         10 => lists::list(s),
         11 => clashes::clash(s),
         12 => clashes::way_back(s),
@@ -51,7 +52,7 @@ fn compared(operation: u8, s: &[u8]) -> Told {
         18 => frames::from_address(s),
         19 => frames::empty(s),
         20..=31 => addresses::conversion(s, operation),
-        _ => told::broken(),
+        _ => comparison::broken(),
     }
 }
 

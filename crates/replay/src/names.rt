@@ -29,7 +29,7 @@ fn omap(operation: u8) -> bool {
     match operation {
         5 => write_all(1, b"record_at"),
         6 => write_all(1, b"lookup"),
-        7 => write_all(1, b"lookup_range"),
+        7 => write_all(1, b"window"),
         8 => write_all(1, b"cursor start"),
         9 => write_all(1, b"cursor step"),
         10 => write_all(1, b"list"),

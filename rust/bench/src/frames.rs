@@ -73,7 +73,7 @@ fn iteration(driver: &mut Driver, records: usize) {
         count,
         || {
             let (mut iter, mut sum) = (table.iter(), 0);
-            while let Some(given) = iter.next().unwrap() {
+            while let Some(given) = iter.next().transpose().unwrap() {
                 sum = frame(sum, given.code_start.0, given.locals_size);
             }
             sum

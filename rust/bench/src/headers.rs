@@ -33,7 +33,7 @@ fn all_headers(driver: &mut Driver) {
                         break;
                     }
                     let header = given.header;
-                    sum = add(sum, seen(header.virtual_address, header.characteristics.0));
+                    sum = add(sum, seen(header.virtual_address, header.characteristics));
                     place += 1;
                 }
                 sum

@@ -9,7 +9,7 @@ use Rattle.lent.specs.Table.{listed, shapeFault}
 use Rattle.lent.specs.Order.{risingAfter, rising, tableFault}
 use Rattle.omap.specs.Records.{records}
 use Rattle.omap.specs.Window.{nextOf, pieceOf, pieces}
-use Rattle.omap.specs.Output.{shown, fits, allFit}
+use Rattle.omap.specs.Output.{besideStart, fits, allFit, sumFault, windowFault}
 use Rattle.omap.proofs.Cases.{tableT}
 use Rattle.clash.specs.Clash.{pairedOr, leastTwo}
 use Rattle.clash.specs.Meet.{sourceIn, sourcesIn, firstMet, clashOf}
@@ -19,7 +19,7 @@ use Rattle.cases.proofs.clashes.all.Statement.{statement}
 use Rattle.cases.proofs.clashes.all.Tie as tie
 
 pub all-spec : {M : Type 1} → statement M
-unfolding leAt listed shapeFault risingAfter rising tableFault records orElse nextOf pieceOf put pieces shown fits allFit pairedOr leastTwo sourceIn sourcesIn firstMet clashOf
+unfolding leAt listed shapeFault risingAfter rising tableFault records orElse nextOf pieceOf put pieces besideStart fits allFit sumFault windowFault pairedOr leastTwo sourceIn sourcesIn firstMet clashOf
 all-spec =
     tie.close
     (tie.spec

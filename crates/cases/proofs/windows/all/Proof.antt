@@ -8,12 +8,12 @@ use Rattle.lent.specs.Table.{listed, shapeFault}
 use Rattle.lent.specs.Order.{risingAfter, rising, tableFault}
 use Rattle.omap.specs.Records.{records}
 use Rattle.omap.specs.Window.{nextOf, pieceOf, pieces, windowPieces}
-use Rattle.omap.specs.Output.{shown, fits, allFit, flat, roomFor, windowSpec, windowOut}
+use Rattle.omap.specs.Output.{besideStart, fits, allFit, sumFault, windowFault, flat, roomFor, windowSpec, windowOut}
 use Rattle.cases.proofs.windows.all.Statement.{statement}
 use Rattle.cases.proofs.windows.all.Tie as tie
 
 pub all-spec : {M : Type 1} → statement M
-unfolding leAt listed shapeFault risingAfter rising tableFault records nextOf pieceOf put pieces shown fits allFit flat roomFor windowSpec windowOut
+unfolding leAt listed shapeFault risingAfter rising tableFault records nextOf pieceOf put pieces besideStart fits allFit sumFault windowFault flat roomFor windowSpec windowOut
 all-spec =
     tie.close
     (tie.spec

@@ -2,8 +2,8 @@
 use Prim.Native.Nat.{_-_}
 use lib.ListN.{length}
 use borrow.Author.Needs.{needs}
-use Rattle.replay.proofs.tables.written.Statement.{statement}
-use Rattle.replay.proofs.tables.written.Tie as tie
+use Rattle.replay.proofs.windows.written.Statement.{statement}
+use Rattle.replay.proofs.windows.written.Tie as tie
 
 abbrev Inv-loop : tie.InvT-loop
 Inv-loop s out told₀ i₀ told i = Unit {0}

@@ -2,8 +2,8 @@
 -- Assumes nothing.
 use mathlib.Core.Path.{_∙_}
 use borrow.Author.Needs.{needs}
-use Rattle.cases.proofs.sections.lies.Statement.{statement}
-use Rattle.cases.proofs.sections.lies.Tie as tie
+use Rattle.cases.proofs.addresses.lies.Statement.{statement}
+use Rattle.cases.proofs.addresses.lies.Tie as tie
 
 gillacorn-virtual-address-requires : tie.Need-gillacorn-virtual-address-requires
 gillacorn-virtual-address-requires c κs = search needs

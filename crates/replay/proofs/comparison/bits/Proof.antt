@@ -2,8 +2,8 @@
 use Prim.Native.Nat.{_-_}
 use lib.ListN.{length}
 use borrow.Author.Needs.{needs}
-use Rattle.replay.proofs.told.bits.Statement.{statement}
-use Rattle.replay.proofs.told.bits.Tie as tie
+use Rattle.replay.proofs.comparison.bits.Statement.{statement}
+use Rattle.replay.proofs.comparison.bits.Tie as tie
 
 abbrev Inv-loop : tie.InvT-loop
 Inv-loop marks number₀ bit₀ i₀ number bit i = Unit {0}

@@ -4,8 +4,8 @@ use mathlib.Core.Path.{ap}
 use borrow.Author.Needs.{needs}
 use borrow.Author.Tests.{eq-eqb}
 use Rattle.gillacorn.specs.declared.code.ValueAnswer.{ValueAnswer}
-use Rattle.cases.proofs.told.is.Statement.{statement}
-use Rattle.cases.proofs.told.is.Tie as tie
+use Rattle.cases.proofs.expected.is.Statement.{statement}
+use Rattle.cases.proofs.expected.is.Tie as tie
 
 expect-requires : tie.Need-expect-requires
 expect-requires c κs = eq-eqb _ _ (ap (λ (v : ValueAnswer). v .code) (c .before .pre))

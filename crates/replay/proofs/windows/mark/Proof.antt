@@ -4,8 +4,8 @@ use mathlib.Core.Path.{_≡_}
 use lib.ListN.{length, length-set}
 use borrow.Author.Needs.{needs}
 use native.Mathlib.Omega.{arith}
-use Rattle.replay.proofs.tables.mark.Statement.{statement}
-use Rattle.replay.proofs.tables.mark.Tie as tie
+use Rattle.replay.proofs.windows.mark.Statement.{statement}
+use Rattle.replay.proofs.windows.mark.Tie as tie
 
 abbrev Inv-loop : tie.InvT-loop
 Inv-loop out₀ value₀ i₀ out value i = length out ≡ length out₀

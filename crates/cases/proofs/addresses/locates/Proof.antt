@@ -3,9 +3,9 @@
 use mathlib.Core.Path.{_∙_, ap}
 use borrow.Author.Needs.{needs}
 use borrow.Author.Tests.{eq-eqb}
-use Rattle.gillacorn.specs.declared.addresses.OffsetAnswer.{OffsetAnswer}
-use Rattle.cases.proofs.sections.locates.Statement.{statement}
-use Rattle.cases.proofs.sections.locates.Tie as tie
+use Rattle.gillacorn.specs.declared.sections.OffsetAnswer.{OffsetAnswer}
+use Rattle.cases.proofs.addresses.locates.Statement.{statement}
+use Rattle.cases.proofs.addresses.locates.Tie as tie
 
 gillacorn-section-offset-requires : tie.Need-gillacorn-section-offset-requires
 gillacorn-section-offset-requires c κs = search needs

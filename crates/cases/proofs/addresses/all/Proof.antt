@@ -6,8 +6,8 @@ use Rattle.lent.specs.Table.{listed, shapeFault}
 use Rattle.pe.specs.Header.{headerAt}
 use Rattle.pe.specs.Extent.{extent}
 use Rattle.address_map.specs.Sections.{walk, sectionSpec, addressSpec}
-use Rattle.cases.proofs.sections.all.Statement.{statement}
-use Rattle.cases.proofs.sections.all.Tie as tie
+use Rattle.cases.proofs.addresses.all.Statement.{statement}
+use Rattle.cases.proofs.addresses.all.Tie as tie
 
 pub all-spec : {M : Type 1} → statement M
 unfolding leAt listed shapeFault headerAt extent walk sectionSpec addressSpec

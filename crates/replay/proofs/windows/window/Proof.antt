@@ -2,8 +2,8 @@
 use lib.ListN.{length-take}
 use native.Mathlib.Omega.{arith}
 use borrow.Author.Needs.{needs}
-use Rattle.replay.proofs.tables.lookup_range.Statement.{statement}
-use Rattle.replay.proofs.tables.lookup_range.Tie as tie
+use Rattle.replay.proofs.windows.window.Statement.{statement}
+use Rattle.replay.proofs.windows.window.Tie as tie
 
 table-at-requires : tie.Need-table-at-requires
 table-at-requires c κs = search needs
@@ -35,8 +35,8 @@ ranged-requires c κs = search needs
 returns-2 : tie.Need-returns-2
 returns-2 c = search needs
 
-pub lookup-range-spec : {M : Type 1} → statement M
-lookup-range-spec =
+pub window-spec : {M : Type 1} → statement M
+window-spec =
     tie.close
     (tie.spec
     table-at-requires

@@ -2,11 +2,11 @@
 ghost use mathlib.Core.Path.{_≡_};
 ghost use Rattle.address_map.specs.Sections.{sectionSpec, addressSpec};
 ghost use Rattle.gillacorn.specs.Code.{valueAnswer};
-ghost use Rattle.gillacorn.specs.Addresses.{offsetAnswer};
-use crate::told::is;
+ghost use Rattle.gillacorn.specs.Sections.{offsetAnswer};
+use crate::expected::is;
 use check::expect;
-use gillacorn::addresses::gillacorn_section_offset;
-use gillacorn::addresses::gillacorn_virtual_address;
+use gillacorn::sections::gillacorn_section_offset;
+use gillacorn::sections::gillacorn_virtual_address;
 
 // The section of an address, and the offset in it.
 fn locates(table: &[u8], address: u32, code: u32, section: u16, offset: u32)
