@@ -26,11 +26,11 @@ returns c = search needs
 array-borrow-prefix-out : tie.Need-array-borrow-prefix-out
 array-borrow-prefix-out c = search needs
 
-slice-aggregate-ranged : tie.Need-slice-aggregate-ranged
-slice-aggregate-ranged c = simp length-take (omega arith)
+slice-aggregate-windowed : tie.Need-slice-aggregate-windowed
+slice-aggregate-windowed c = simp length-take (omega arith)
 
-ranged-requires : tie.Need-ranged-requires
-ranged-requires c κs = search needs
+windowed-requires : tie.Need-windowed-requires
+windowed-requires c κs = search needs
 
 returns-2 : tie.Need-returns-2
 returns-2 c = search needs
@@ -46,6 +46,6 @@ window-spec =
     broken-requires
     returns
     array-borrow-prefix-out
-    slice-aggregate-ranged
-    ranged-requires
+    slice-aggregate-windowed
+    windowed-requires
     returns-2)
