@@ -8,12 +8,12 @@ use mathlib.Core.List.{List}
 use lib.ListN.{length, replicate, length-replicate}
 use denote.Ref.{RefT}
 use Rattle.omap.specs.Output.{toldWindowed, windowSpec, windowOut}
-use Rattle.omap.specs.declared.window.Windowed.{Windowed}
+use Rattle.omap.specs.declared.windows.Windowed.{Windowed}
 use Rattle.omap.specs.declared.cursor.Cursor.{Cursor}
 use Rattle.omap.proofs.Determined.{one-window}
 use Rattle.ranges.specs.declared.Piece.{Piece}
 use Rattle.ranges.specs.declared.reader.RangeReader.{RangeReader}
-use Rattle.ranges.specs.Shown.{listOut}
+use Rattle.ranges.specs.ListOut.{listOut}
 
 -- an output of numbers has room for n entries
 abbrev places : ℕ → List ℕ

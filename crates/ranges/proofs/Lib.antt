@@ -1,6 +1,9 @@
-pub mod Handed
+pub mod Locals
+pub mod Calling
+pub mod Hand
+pub mod Lending
 pub mod Planning
-pub mod Pulling
+pub mod Writing
 pub mod Listing
 pub mod Draining
 pub mod Determined

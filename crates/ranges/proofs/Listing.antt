@@ -1,105 +1,74 @@
--- The list's loop: what is left to write, written onto the list as it is, gives the list as it will be.
+-- The list's walk: a span that has the pieces to write, and one piece pulled from it.
 -- Assumes nothing.
-use mathlib.Core.Path.{_≡_, refl, ap, _∙_}
-use Prim.Native.Nat.{ℕ, _+_, _-_, _≤_, _<_, _^_}
-use native.Mathlib.Nat.{zero-add}
-use native.Mathlib.Numerals.{add-one}
+use mathlib.Core.Path.{_≡_, refl, sym, ap, _∙_}
+use Prim.Native.Nat.{ℕ, _≤_, _<_}
 use native.Mathlib.Omega.{arith}
-use mathlib.Core.Bool.{Bool, true}
-use mathlib.Core.List.{List, [], _∷_, _++_, map}
-use mathlib.Core.WellFounded.{WellFounded, InvImage·wf}
-use lib.WfN.{Nat·lt-wfRel}
-use lib.ListN.{length, drop, set, length-set, length-map}
-use lib.Seq.{sets, sets-eq}
+use mathlib.Core.Bool.{Bool, true, _&&_}
+use mathlib.Core.List.{List, [], _∷_, map}
+use lib.ListN.{length, length-map}
 use Rattle.lent.specs.Words.{writtenOver}
-use Rattle.omap.specs.Window as window
 use Rattle.omap.specs.Window.{windowPieces}
-use Rattle.omap.specs.Output.{allFit, Window, counted, refusedAs, refusedFor, outAfter, windowSpec}
+use Rattle.omap.specs.declared.walk.Piece.{Piece as MappedPiece}
+use Rattle.omap.specs.Walk.{left, Bounded, Found}
+use Rattle.omap.specs.Output.{allFit, besideStart, windowSpec}
+use Rattle.omap.specs.declared.walk.Span.{Span}
+use Rattle.omap.proofs.Pieces.{fits-shown, first-fits, others-fit}
 use Rattle.ranges.specs.declared.Piece.{Piece}
-use Rattle.ranges.specs.declared.Task.{Task}
-use Rattle.ranges.specs.declared.Found.{Found}
-use Rattle.ranges.specs.Shown.{asPiece, listOut}
-use Rattle.ranges.specs.Left.{left, written, Planned, Pulled}
-use Rattle.ranges.proofs.Planning.{written-fit, written-room}
+use Rattle.ranges.specs.declared.WindowPlan.{WindowPlan}
+use Rattle.ranges.specs.declared.PulledPiece.{PulledPiece}
+use Rattle.ranges.specs.ListOut.{asPiece, listOut}
+use Rattle.ranges.specs.Inside.{toWrite, Planned, Ahead, Pulled}
+use Rattle.ranges.proofs.Planning.{all-written, entries-out}
 
--- where the loop stands: k pieces are in the list, and the others are those from place i on
-pub record Listing (present : Bool) (s : List ℕ) (a b : ℕ) (out₀ : List Piece) (n : ℕ) : Type 0 where
-  pub out : List Piece
-  pub k : ℕ
-  pub i : ℕ
-  pub small : i < 2 ^ 64
-  pub kept : length out ≡ length out₀
-  pub fit : allFit (left present s a b i) ≡ true
-  pub number : k + length (left present s a b i) ≡ n
-  pub goal : sets out k (map asPiece (left present s a b i)) ≡ listOut present s a b out₀
+module _ (present : Bool) (s : List ℕ) (a b : ℕ) where
+  -- the records l are the pieces of the span p, which all fit
+  pub record Lists (p : Span) (l : List Piece) : Type 0 where
+    pub same : map asPiece (left present s a b (p .first)) ≡ l
+    pub bounded : Bounded present s b (p .last)
+    pub fit : allFit (left present s a b (p .first)) ≡ true
 
-laid-written : (w : Window) (l : List window.Piece) (out : List Piece) → writtenOver (map asPiece (written w l)) out ≡ outAfter w (map asPiece l) out
-laid-written (counted n) l out = refl
-laid-written (refusedAs n) l out = refl
-laid-written (refusedFor n k) l out = refl
+  -- what the plan begins with
+  module _ (room : ℕ) (t : WindowPlan) (p : Planned present s a b room t) where
+    abbrev pub to-list : List Piece
+    to-list = map asPiece (toWrite present s a b room)
 
-front : (vs out : List Piece) → length vs ≤ length out → sets out 0 vs ≡ writtenOver vs out
-front vs out h = sets-eq vs out 0 (omega arith) ∙ ap (λ (k : ℕ). vs ++ drop k out) (zero-add (length vs))
+    pub count-is : length to-list ≡ t .count
+    count-is = length-map (toWrite present s a b room) asPiece ∙ sym (p .number)
 
-module _ (present : Bool) (s : List ℕ) (a b : ℕ) (out₀ : List Piece) where
-  -- the loop's measure: so many pieces are left
-  module _ (n : ℕ) where
-    abbrev pub Nearer : Listing present s a b out₀ n → Listing present s a b out₀ n → Type 0
-    Nearer w v = n - w .k < n - v .k
+    pub lists-first : 0 < length to-list → Lists (t .span) to-list
+    lists-first h =
+        let n : 0 < t .count = omega (arith, count-is) in
+        let q = p .spans n in
+        let e = all-written (windowSpec present s a b room) (windowPieces present s a b) (omega (arith, p .number)) in
+        record { same = ap (map asPiece) (sym (e ∙ q .all)); bounded = q .bounded; fit = rw (q .all) at (p .fit n) }
 
-    pub nearer-wf : WellFounded Nearer
-    nearer-wf = InvImage·wf (λ (w : Listing present s a b out₀ n). n - w .k) (Nat·lt-wfRel .wf)
+  pub to-list-out : (out : List Piece) → writtenOver (map asPiece (toWrite present s a b (length out))) out ≡ listOut present s a b out
+  unfolding listOut
+  to-list-out out = entries-out (map asPiece) refl (windowSpec present s a b (length out)) (windowPieces present s a b) out
 
-  module _ (t : Task) (p : Planned present s a b (length out₀) t) where
-    abbrev w : Window
-    w = windowSpec present s a b (length out₀)
-
-    abbrev l : List window.Piece
-    l = windowPieces present s a b
-
-    fits-in : length (map asPiece (written w l)) ≤ length out₀
-    fits-in = omega (arith, length-map (written w l) asPiece, written-room present s a b (length out₀))
-
-    pub begin : sets out₀ 0 (map asPiece (left present s a b (t .first))) ≡ listOut present s a b out₀
-    unfolding listOut
-    begin = ap (λ (q : List window.Piece). sets out₀ 0 (map asPiece q)) (p .places) ∙ front (map asPiece (written w l)) out₀ fits-in ∙ laid-written w l out₀
-
-    abbrev pub listing-first : t .first < 2 ^ 64 → Listing present s a b out₀ (t .count)
-    listing-first h = record {
-      out = out₀;
-      k = 0;
-      i = t .first;
-      small = h;
-      kept = refl;
-      fit = rw (p .places) (written-fit present s a b (length out₀));
-      number = omega (arith, p .number);
-      goal = begin;
+  -- what the loop asks of a span, and how it goes on
+  module _ (p : Span) (l : List Piece) (h : 0 < length l) (g : Lists p l) where
+    pub lists-ahead : Ahead present s a b p
+    lists-ahead = record {
+      bounded = g .bounded;
+      some-left = omega (arith, length-map (left present s a b (p .first)) asPiece, ap length (g .same));
+      fit = g .fit;
     }
 
-    -- there is room for each piece
-    pub listing-room : t .count ≤ length out₀
-    listing-room = omega (arith, p .number, ap length (p .places), written-room present s a b (length out₀))
+    module _ (r : PulledPiece) (u : Pulled present s a b p r) where
+      pub lists-more : Lists (r .rest) (map asPiece (left present s a b (r .rest .first)))
+      lists-more = record { same = refl; bounded = u .bounded; fit = u .fit }
 
-  module _ (n : ℕ) (w : Listing present s a b out₀ n) where
-    pub listing-last : n ≤ w .k → w .out ≡ listOut present s a b out₀
-    listing-last h = go (left present s a b (w .i)) (omega (arith, w .number)) (w .goal)
-      where
-        go : (l : List window.Piece) → length l ≡ 0 → sets (w .out) (w .k) (map asPiece l) ≡ listOut present s a b out₀ → w .out ≡ listOut present s a b out₀
-        go [] e q = q
-        go (x ∷ l) e q = absurd (omega arith)
+      pub lists-split : l ≡ r .piece ∷ map asPiece (left present s a b (r .rest .first))
+      lists-split = sym (g .same) ∙ u .head
 
-    module _ (h : w .k < n) where
-      pub listing-asks : (0 < length (left present s a b (w .i))) × (allFit (left present s a b (w .i)) ≡ true)
-      listing-asks = (omega (arith, w .number), w .fit)
+  -- a piece pulled
+  module _ (p : Span) (w : Ahead present s a b p) (q : MappedPiece) (n : ℕ) (f : Found present s a b (p .first) q n) where
+    fit-here : allFit (q ∷ left present s a b n) ≡ true
+    fit-here = rw (f .first) at (w .fit)
 
-      abbrev pub listing-more : (f : Found) → Pulled present s a b (w .i) f → f .next < 2 ^ 64 → Listing present s a b out₀ n
-      listing-more f p small = record {
-        out = set (w .out) (w .k) (f .piece);
-        k = w .k + 1;
-        i = f .next;
-        small = small;
-        kept = simp length-set (w .kept);
-        fit = p .fit;
-        number = omega (arith, w .number, length-map (left present s a b (w .i)) asPiece, length-map (left present s a b (f .next)) asPiece, ap length (p .head));
-        goal = rw add-one (rw (p .head) at (w .goal));
-      }
+    pub pulled-fits : (q .to ≤ 4294967295) × (besideStart q ≤ 4294967295)
+    pulled-fits = fits-shown q (first-fits q (left present s a b n) fit-here)
+
+    pub pulled : Pulled present s a b p (record { piece = asPiece q; rest = record { first = n; last = p .last } })
+    pulled = record { head = ap (map asPiece) (f .first); bounded = w .bounded; fit = others-fit q (left present s a b n) fit-here }

@@ -1,3 +1,2 @@
-pub mod Shown
-pub mod Left
-pub mod Drain
+pub mod ListOut
+pub mod Inside

@@ -1,23 +1,82 @@
--- `ranges::pull` meets its contract: with a table or with none.
+-- `ranges::pull` meets its contract: the walk's next piece, which there is.
 -- Assumes nothing.
+use Prim.Native.Nat.{ℕ, _≤_}
+use mathlib.Core.Path.{ap}
+use mathlib.Core.List.{List}
 use native.Mathlib.Omega.{arith}
+use lib.ListN.{length}
 use denote.Ref.{now}
-use Rattle.ranges.specs.Left.{left}
-use Rattle.ranges.proofs.Pulling.{pulled-none}
+use Rattle.omap.specs.Walk.{Found}
+use Rattle.omap.specs.Output.{besideStart}
+use Rattle.omap.specs.declared.walk.Piece.{Piece}
+use Rattle.omap.proofs.Walking.{was-found, was-end}
+use Rattle.ranges.proofs.Listing.{pulled-fits, pulled}
+use borrow.Author.Needs.{needs}
 use Rattle.ranges.proofs.pull.Statement.{statement}
 use Rattle.ranges.proofs.pull.Tie as tie
 
-pull-in-requires : tie.Need-pull-in-requires
-pull-in-requires c κs = rw (c .if1 .taken) at (c .before .before .pre)
+-- where a piece is found
+module _ (k : tie.After-known-told) where
+  abbrev st : tie.Start
+  st = k .before .before .before .before .before
+
+  abbrev s : List ℕ
+  s = now (st .args .table)
+
+  abbrev p : Piece
+  p = k .before .next .given .0 .0
+
+  abbrev n : ℕ
+  n = k .before .next .given .0 .1 .0
+
+  found : Found (st .args .present) s (st .args .a) (st .args .b) (st .args .span .first) p n
+  found =
+      was-found (st .args .present) s (st .args .a) (st .args .b) (st .args .span .first) (k .before .before .before .next-piece .ensures) p n
+      (k .before .next .given .1)
+
+  small : (p .to ≤ 4294967295) × (besideStart p ≤ 4294967295)
+  small = pulled-fits (st .args .present) s (st .args .a) (st .args .b) (st .args .span) (st .pre) p n found
+
+next-piece-requires : tie.Need-next-piece-requires
+next-piece-requires c κs = search needs
+
+enum-known-next : tie.Need-enum-known-next
+enum-known-next c = search needs
+
+cast-t11 : tie.Need-cast-t11
+cast-t11 c = omega (arith, small (c .before) .0)
+
+beside-start-requires : tie.Need-beside-start-requires
+beside-start-requires c κs = found (c .before) .small
+
+cast-t13 : tie.Need-cast-t13
+cast-t13 c = omega (arith, c .beside-start .ensures, small (c .before .before) .1)
+
+enum-told : tie.Need-enum-told
+enum-told c = search needs
 
 returns : tie.Need-returns
-returns c = rw (c .before .if1 .taken) (c .pull-in .ensures)
+returns c =
+    let k = c .before .before in
+    let a = st k .args in
+    rw (c .beside-start .ensures) (pulled (a .present) (s k) (a .a) (a .b) (a .span) (st k .pre) (p k) (n k) (found k))
 
+-- a piece is left
 returns-2 : tie.Need-returns-2
 returns-2 c =
-    let a = c .before .before .args in
-    let h = rw (c .if1 .left) at (c .before .before .pre .0) in
-    rw (c .if1 .left) (pulled-none (now (a .table)) (a .a) (a .b) (omega arith) (a .i) h)
+    let t = c .before .before .before .before in
+    let e = was-end (t .args .present) (now (t .args .table)) (t .args .a) (t .args .b) (t .args .span .first) (c .before .before .next-piece .ensures) (c .enum-told .given .1) in
+    absurd (omega (arith, ap length e, t .pre .some-left))
 
 pub pull-spec : {M : Type 1} → statement M
-pull-spec = tie.close (tie.spec pull-in-requires returns returns-2)
+pull-spec =
+    tie.close
+    (tie.spec
+    next-piece-requires
+    enum-known-next
+    cast-t11
+    beside-start-requires
+    cast-t13
+    enum-told
+    returns
+    returns-2)

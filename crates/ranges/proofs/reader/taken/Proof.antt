@@ -1,16 +1,16 @@
 -- `ranges::reader::taken` meets its contract: a piece, or none.
 -- Assumes nothing.
-use mathlib.Core.Path.{_≡_, sym, ap, _∙_}
+use mathlib.Core.Path.{_≡_, sym, ap}
 use Rattle.omap.specs.Step.{toldStep}
 use Rattle.omap.specs.declared.cursor.Step.{Step}
-use Rattle.ranges.specs.Drain.{asTurn}
+use Rattle.ranges.specs.Inside.{asTaken}
 use borrow.Author.Needs.{needs}
 use Rattle.ranges.proofs.reader.taken.Statement.{statement}
 use Rattle.ranges.proofs.reader.taken.Tie as tie
 
 -- an answer that is known, taken apart
-known : (s q : Step) → s ≡ q → asTurn (toldStep q) ≡ asTurn (toldStep s)
-known s q e = ap (λ (x : Step). asTurn (toldStep x)) (sym e)
+known : (s q : Step) → s ≡ q → asTaken (toldStep q) ≡ asTaken (toldStep s)
+known s q e = ap (λ (x : Step). asTaken (toldStep x)) (sym e)
 
 enum-known-s : tie.Need-enum-known-s
 enum-known-s c = search needs
@@ -18,41 +18,29 @@ enum-known-s c = search needs
 enum-known-s-2 : tie.Need-enum-known-s-2
 enum-known-s-2 c = search needs
 
-spent-requires : tie.Need-spent-requires
-spent-requires c κs = search needs
-
 enum-known-s-3 : tie.Need-enum-known-s-3
 enum-known-s-3 c = search needs
-
-spent-requires-2 : tie.Need-spent-requires-2
-spent-requires-2 c κs = search needs
 
 enum-known-s-4 : tie.Need-enum-known-s-4
 enum-known-s-4 c = search needs
 
-spent-requires-3 : tie.Need-spent-requires-3
-spent-requires-3 c κs = search needs
-
 enum-known-s-5 : tie.Need-enum-known-s-5
 enum-known-s-5 c = search needs
-
-spent-requires-4 : tie.Need-spent-requires-4
-spent-requires-4 c κs = search needs
 
 returns : tie.Need-returns
 returns c = known _ _ (c .before .s .given .1)
 
 returns-2 : tie.Need-returns-2
-returns-2 c = c .spent .ensures ∙ known _ _ (c .before .before .s2 .given .1)
+returns-2 c = known _ _ (c .before .s2 .given .1)
 
 returns-3 : tie.Need-returns-3
-returns-3 c = c .spent2 .ensures ∙ known _ _ (c .before .before .s3 .given .1)
+returns-3 c = known _ _ (c .before .s3 .given .1)
 
 returns-4 : tie.Need-returns-4
-returns-4 c = c .spent3 .ensures ∙ known _ _ (c .before .before .s4 .given .1)
+returns-4 c = known _ _ (c .before .s4 .given .1)
 
 returns-5 : tie.Need-returns-5
-returns-5 c = c .spent4 .ensures ∙ known _ _ (c .before .before .s5 .given .1)
+returns-5 c = known _ _ (c .before .s5 .given .1)
 
 pub taken-spec : {M : Type 1} → statement M
 taken-spec =
@@ -60,13 +48,9 @@ taken-spec =
     (tie.spec
     enum-known-s
     enum-known-s-2
-    spent-requires
     enum-known-s-3
-    spent-requires-2
     enum-known-s-4
-    spent-requires-3
     enum-known-s-5
-    spent-requires-4
     returns
     returns-2
     returns-3

@@ -3,14 +3,14 @@ use Prim.Native.Nat.{ℕ}
 use mathlib.Core.Bool.{Bool}
 use mathlib.Core.List.{List, map}
 use lib.ListN.{length}
-use Rattle.omap.specs.Window as window
 use Rattle.omap.specs.Window.{windowPieces}
-use Rattle.omap.specs.Output.{shown, outAfter, windowSpec}
+use Rattle.omap.specs.declared.walk.Piece.{Piece as MappedPiece}
+use Rattle.omap.specs.Output.{besideStart, outAfter, windowSpec}
 use Rattle.ranges.specs.declared.Piece.{Piece}
 
 -- a piece's start, and what it shows beside it
-abbrev pub asPiece : window.Piece → Piece
-asPiece p = record { start = p .to; end = shown p }
+abbrev pub asPiece : MappedPiece → Piece
+asPiece p = record { start = p .to; end = besideStart p }
 
 -- what the call leaves in a lent list: an entry is a record
 unfoldable pub listOut : Bool → List ℕ → ℕ → ℕ → List Piece → List Piece
