@@ -1,4 +1,5 @@
--- What the sources of a target and the first clash say of the addresses of a window, one by one. Over any translation f.
+-- What the sources of a target and the first clash say of the addresses of a window, one by one. Over any translation
+-- f.
 -- Assumes nothing.
 use mathlib.Core.Path.{_≡_, refl, sym, ap, _∙_, subst}
 use mathlib.Core.Logic.{_⊎_, inl, inr, ⊎-elim}
@@ -54,8 +55,10 @@ module _ (f : ℕ → Option ℕ) (t : ℕ) where
   sources-none zero a e x w = let l : a ≤ x = w .from in let k : x < a + zero = w .below in omega arith
   sources-none (suc n) a e x w =
       ⊎-elim
-      (λ (q : landsOn (f a) t ≡ true). let c : a ∷ S (suc a) n ≡ [] = sym (here a n (lands-is (f a) t q)) ∙ e in let z : _≡_ {A = ℕ} 0 1 = cc in omega arith)
-      (λ (q : landsOn (f a) t ≡ false). sources-none n (suc a) (sym (not-here a n q) ∙ e) x (later a n x (lands-not (f a) t q) w))
+      (λ (q : landsOn (f a) t ≡ true). let c : a ∷ S (suc a) n ≡ [] = sym (here a n (lands-is (f a) t q))
+      ∙ e in let z : _≡_ {A = ℕ} 0 1 = cc in omega arith)
+      (λ (q : landsOn (f a) t ≡ false). sources-none n (suc a) (sym (not-here a n q) ∙ e) x
+      (later a n x (lands-not (f a) t q) w))
       (which (landsOn (f a) t))
 
   -- the first source is the least address that goes to t, and the others are the sources past it
@@ -85,7 +88,12 @@ module _ (f : ℕ → Option ℕ) (t : ℕ) where
       let r = sources-first n (suc a) y ys (sym (not-here a n q) ∙ e) in
       let k : suc a + n ≡ a + suc n = omega arith in
       record {
-        is = record { from = let l : suc a ≤ y = r .is .from in omega arith; below = let l : y < suc a + n = r .is .below in omega arith; lands = r .is .lands };
+        is = record {
+          from = let l : suc a ≤ y = r .is .from in omega arith;
+          below = let l : y < suc a
+              + n = r .is .below in omega arith;
+          lands = r .is .lands;
+        };
         least = λ x w. r .least x (later a n x h w);
         others = r .others ∙ ap (λ (i : ℕ). S (suc y) (i - suc y)) k;
       })
@@ -93,7 +101,8 @@ module _ (f : ℕ → Option ℕ) (t : ℕ) where
 
 -- those that share a translation with another
 module _ (f : ℕ → Option ℕ) where
-  shared-none : (n a : ℕ) (o : Option ℕ) → sharing f o (upFrom a n) ≡ [] → (t : ℕ) → o ≡ some t → (y : ℕ) → Source f a (a + n) t y → ⊥
+  shared-none : (n a : ℕ) (o : Option ℕ) → sharing f o (upFrom a n) ≡ [] → (t : ℕ) → o ≡ some t → (y : ℕ) → Source f a
+      (a + n) t y → ⊥
   shared-none n a none e t q y w = let z : _≡_ {A = ℕ} 0 1 = cc in omega arith
   shared-none n a (some v) e t q y w =
       let k : v ≡ t = cc in
@@ -105,7 +114,8 @@ module _ (f : ℕ → Option ℕ) where
     is : Source f a b target y
     least : (x : ℕ) → Source f a b target x → y ≤ x
 
-  shared-first : (n a : ℕ) (o : Option ℕ) (y : ℕ) (ys : List ℕ) → sharing f o (upFrom a n) ≡ y ∷ ys → Shared a (a + n) o y
+  shared-first : (n a : ℕ) (o : Option ℕ) (y : ℕ) (ys : List ℕ) → sharing f o (upFrom a n) ≡ y ∷ ys → Shared a
+      (a + n) o y
   shared-first n a none y ys e = let z : _≡_ {A = ℕ} 0 1 = cc in absurd (omega arith)
   shared-first n a (some t) y ys e =
       let r = sources-first f t n a y ys e in
@@ -114,7 +124,14 @@ module _ (f : ℕ → Option ℕ) where
   -- a clash of the addresses from a on begins at a, or past it
   clash-after : (a n x y : ℕ) → (a < x) → Clash f a (a + suc n) x y → Clash f (suc a) (suc a + n) x y
   clash-after a n x y l c =
-      record { from = l; apart = c .apart; below = let k : y < a + suc n = c .below in omega arith; target = c .target; first = c .first; second = c .second }
+      record {
+        from = l;
+        apart = c .apart;
+        below = let k : y < a + suc n = c .below in omega arith;
+        target = c .target;
+        first = c .first;
+        second = c .second;
+      }
 
   partner : (a n x y : ℕ) (c : Clash f a (a + suc n) x y) → a ≡ x → Source f (suc a) (suc a + n) (c .target) y
   partner a n x y c e =
@@ -130,7 +147,8 @@ module _ (f : ℕ → Option ℕ) where
   -- no clash found: there is none
   clash-none : (n a : ℕ) → firstClash f (upFrom a n) ≡ none → (x y : ℕ) → Clash f a (a + n) x y → ⊥
   unfolding firstClash upFrom
-  clash-none zero a e x y c = let l : a ≤ x = c .from in let m : x < y = c .apart in let k : y < a + zero = c .below in omega arith
+  clash-none zero a e x y c = let l : a ≤ x = c .from in let m : x < y = c .apart in let k : y < a
+      + zero = c .below in omega arith
   clash-none (suc n) a e x y c =
       let q = none-step a (sharing f (f a) (upFrom (suc a) n)) (firstClash f (upFrom (suc a) n)) e in
       ⊎-elim
@@ -140,7 +158,8 @@ module _ (f : ℕ → Option ℕ) where
 
   -- the clash found is the least
   some-step : (n a : ℕ) (p : Pair) → (firstClash f (upFrom (suc a) n) ≡ some p → LeastClash f (suc a) (suc a + n) p)
-      → (ys : List ℕ) → sharing f (f a) (upFrom (suc a) n) ≡ ys → pairedOr a ys (firstClash f (upFrom (suc a) n)) ≡ some p → LeastClash f a (a + suc n) p
+      → (ys : List ℕ) → sharing f (f a) (upFrom (suc a) n) ≡ ys → pairedOr a ys
+      (firstClash f (upFrom (suc a) n)) ≡ some p → LeastClash f a (a + suc n) p
   unfolding pairedOr
   some-step n a p ih [] s e =
       let r = ih e in
@@ -156,7 +175,8 @@ module _ (f : ℕ → Option ℕ) where
         };
         least = λ x y w.
             ⊎-elim
-            (λ (z : a ≡ x). absurd (shared-none n (suc a) (f a) s (w .target) (ap f z ∙ w .first) y (partner a n x y w z)))
+            (λ (z : a ≡ x). absurd (shared-none n (suc a) (f a) s (w .target) (ap f z ∙ w .first) y
+            (partner a n x y w z)))
             (λ (l : a < x). r .least x y (clash-after a n x y l w))
             (eq-or-lt-of-le (w .from));
       }
@@ -180,7 +200,14 @@ module _ (f : ℕ → Option ℕ) where
             ⊎-elim
             (λ (z : a ≡ x).
             let u : r .target ≡ w .target = some-same (r .target) (w .target) (sym (r .goes) ∙ ap f z ∙ w .first) in
-            inr (sym i ∙ z, omega (arith, r .least y (subst (λ (g : ℕ). Source f (suc a) (suc a + n) g y) (sym u) (partner a n x y w z)))))
+            inr (
+              sym i ∙ z,
+              omega (
+                arith,
+                r .least y
+                    (subst (λ (g : ℕ). Source f (suc a) (suc a + n) g y) (sym u) (partner a n x y w z)),
+              ),
+            ))
             (λ (g : a < x). inl (omega arith))
             (eq-or-lt-of-le (w .from));
       }
@@ -235,4 +262,9 @@ module _ (f : ℕ → Option ℕ) (a b : ℕ) where
         let r = sources-first f t (b - a) a y ys e in
         let k : y < a + (b - a) = r .is .below in
         let n : a + (b - a) - suc y ≡ b - suc y = omega arith in
-        record { is = of-run t y (r .is); least = λ x w. r .least x (in-run t x w); others = r .others ∙ ap (λ (i : ℕ). sourcesOf f t (upFrom (suc y) i)) n }
+        record {
+          is = of-run t y (r .is);
+          least = λ x w. r .least x (in-run t x w);
+          others = r .others
+              ∙ ap (λ (i : ℕ). sourcesOf f t (upFrom (suc y) i)) n;
+        }

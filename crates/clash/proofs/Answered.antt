@@ -1,4 +1,5 @@
--- What the clash check and the way back answer, in the words of specs/Demand, over the unbounded single translation: the laws behind
+-- What the clash check and the way back answer, in the words of specs/Demand, over the unbounded single translation:
+-- the laws behind
 -- demand 3. For every table and window that are not refused 1, 2, 3 and 4.
 -- Assumes nothing.
 use mathlib.Core.Path.{_≡_, refl, sym, ap, _∙_}
@@ -23,7 +24,8 @@ use Rattle.clash.proofs.Pairs.{no-pieces}
 use Rattle.clash.proofs.Runs.{sources-by-pieces}
 use Rattle.clash.proofs.Addresses.{no-clash, a-clash, no-source}
 use Rattle.clash.proofs.Smaller.{smaller-fits, target-fits}
-use Rattle.clash.proofs.Told.{one-least, meet-or-clash, told-none, none-told, told-one, one-told, told-two, two-told, fitted-is}
+use Rattle.clash.proofs.Told.{one-least, meet-or-clash, told-none, none-told, told-one, one-told, told-two}
+use Rattle.clash.proofs.Told.{two-told, fitted-is}
 
 no-fault : (f g : Option ℕ) → firstOf f g ≡ none → (f ≡ none) × (g ≡ none)
 no-fault none g e = (refl, e)
@@ -34,13 +36,15 @@ fits-all true e = refl
 fits-all false e = cc
 
 -- a window that is not refused: its table is not, and its pieces fit
-pub faultless : (s : List ℕ) (a b : ℕ) → windowFault true s a b ≡ none → (omapFault s ≡ none) × (allFit (pieces a b (records s)) ≡ true)
+pub faultless : (s : List ℕ) (a b : ℕ) → windowFault true s a b ≡ none
+    → (omapFault s ≡ none) × (allFit (pieces a b (records s)) ≡ true)
 unfolding windowFault sumFault
 faultless s a b e =
     let q = no-fault (omapFault s) (cond (allFit (pieces a b (records s))) none (some 4)) e in
     (q .0, fits-all (allFit (pieces a b (records s))) (q .1))
 
-pub fault-free : (s : List ℕ) (a b : ℕ) → omapFault s ≡ none → allFit (pieces a b (records s)) ≡ true → windowFault true s a b ≡ none
+pub fault-free : (s : List ℕ) (a b : ℕ) → omapFault s ≡ none → allFit (pieces a b (records s)) ≡ true
+    → windowFault true s a b ≡ none
 unfolding windowFault sumFault
 fault-free s a b g f = rw (g, f)
 
@@ -61,13 +65,19 @@ module _ (s : List ℕ) (a b : ℕ) (good : windowFault true s a b ≡ none) whe
   -- an address of the window lands on t exactly if its single translation is told as t
   pub lookup-tells : b ≤ 4294967295 → (t x : ℕ) → Source f a b t x → lookupSpec true s x ≡ value t
   unfolding lookupSpec
-  lookup-tells w t x v = rw (faultless s a b good .0, v .lands, le-leb t 4294967295 (lands-fit (sourcesOf f t (range a b)) refl))
+  lookup-tells w t x v = rw (
+    faultless s a b good .0,
+    v .lands,
+    le-leb t 4294967295
+        (lands-fit (sourcesOf f t (range a b)) refl),
+  )
     where
       lands-fit : (l : List ℕ) → sourcesOf f t (range a b) ≡ l → t ≤ 4294967295
       lands-fit [] e = absurd (no-source f a b t e x v)
       lands-fit (y ∷ ys) e =
           target-fits (pieces a b (records s)) t y ys (faultless s a b good .1)
-          (sym (sources-by-pieces a b (records s) (ap rising (sources-keys s) ∙ in-order s (faultless s a b good .0)) (omega arith) t) ∙ e)
+          (sym (sources-by-pieces a b (records s) (ap rising (sources-keys s) ∙ in-order s (faultless s a b good .0))
+          (omega arith) t) ∙ e)
 
   pub lookup-told : (t x : ℕ) → a ≤ x → x < b → lookupSpec true s x ≡ value t → Source f a b t x
   unfolding lookupSpec
@@ -103,7 +113,8 @@ module _ (s : List ℕ) (a b : ℕ) (good : windowFault true s a b ≡ none) whe
   -- two different addresses share a translation: a pair is reported
   pub is-reported : (x y : ℕ) → Clash f a b x y → Reported s a b
   is-reported x y c =
-      ⊎-elim (λ (e : clashSpec s a b ≡ value none). absurd (no-clash f a b (found none e) x y c)) (λ (r : Reported s a b). r) single-or-pair
+      ⊎-elim (λ (e : clashSpec s a b ≡ value none). absurd (no-clash f a b (found none e) x y c))
+      (λ (r : Reported s a b). r) single-or-pair
 
   -- the least of all that clash: it is reported
   pub is-pair : (p : Pair) → LeastClash f a b p → clashSpec s a b ≡ value (some p)
@@ -124,7 +135,8 @@ module _ (s : List ℕ) (a b : ℕ) (good : windowFault true s a b ≡ none) whe
       absurd (omega (
         arith,
         n (c .target) (r .pair .first) (r .pair .second)
-            (record { from = j; below = omega arith; lands = c .first }) (record { from = omega arith; below = k; lands = c .second }),
+            (record { from = j; below = omega arith; lands = c .first })
+            (record { from = omega arith; below = k; lands = c .second }),
       )))
       single-or-pair
 
@@ -200,10 +212,12 @@ module _ (s : List ℕ) (a b : ℕ) (good : omapFault s ≡ none) (h : b ≤ a) 
       (λ t x y v w. let l : a ≤ x = v .from in let k : x < b = v .below in absurd (omega arith))
 
   pub empty-back : (t : ℕ) → backSpec s a b t ≡ nothing
-  empty-back t = none-back s a b fits-empty t (λ x w. let l : a ≤ x = w .from in let k : x < b = w .below in omega arith)
+  empty-back t = none-back s a b fits-empty t
+      (λ x w. let l : a ≤ x = w .from in let k : x < b = w .below in omega arith)
 
 -- "single" passes to every smaller window
-pub smaller-single : (s : List ℕ) (a b c d : ℕ) → a ≤ c → d ≤ b → clashSpec s a b ≡ value none → clashSpec s c d ≡ value none
+pub smaller-single : (s : List ℕ) (a b c d : ℕ) → a ≤ c → d ≤ b → clashSpec s a b ≡ value none
+    → clashSpec s c d ≡ value none
 smaller-single s a b c d h k e =
     let good = window-good s a b none e in
     let g = faultless s a b good in
@@ -214,4 +228,5 @@ smaller-single s a b c d h k e =
     let i : c ≤ y = w .from in
     let j : y < d = w .below in
     single-is s a b good e t x y
-    (record { from = omega arith; below = omega arith; lands = v .lands }) (record { from = omega arith; below = omega arith; lands = w .lands }))
+    (record { from = omega arith; below = omega arith; lands = v .lands })
+    (record { from = omega arith; below = omega arith; lands = w .lands }))

@@ -1,4 +1,5 @@
--- The answers of the clash check and the way back: by refusals, and by the window's pieces, from which they are computed.
+-- The answers of the clash check and the way back: by refusals, and by the window's pieces, from which they are
+-- computed.
 -- Assumes nothing.
 use mathlib.Core.Path.{_≡_, refl, sym, ap, _∙_}
 use Prim.Native.Nat.{ℕ, _≤_}

@@ -19,6 +19,7 @@ back-last kept l t e = rw (e, append-nil kept)
 
 -- a piece more, by what is known of the sources then kept
 pub back-more : (kept more : List ℕ) (l : List Piece) (p : Piece) (rest : List Piece) (t : ℕ) → l ≡ p ∷ rest
-    → ((r : List ℕ) → leastTwo (kept ++ put (sourceIn t p) r) ≡ leastTwo (more ++ r)) → backAfter kept l t ≡ backAfter more rest t
+    → ((r : List ℕ) → leastTwo (kept ++ put (sourceIn t p) r) ≡ leastTwo (more ++ r))
+    → backAfter kept l t ≡ backAfter more rest t
 unfolding sourcesIn
 back-more kept more l p rest t e k = ap (λ (q : List Piece). backAfter kept q t) e ∙ k (sourcesIn t rest)

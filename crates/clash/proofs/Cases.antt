@@ -1,4 +1,5 @@
--- All of document 01's starred cases, as one statement over a list of them: those of crate omap on translation and window, and
+-- All of document 01's starred cases, as one statement over a list of them: those of crate omap on translation and
+-- window, and
 -- those on the clash check and the way back, in the table T.
 -- Assumes nothing.
 use mathlib.Core.Path.{_≡_, refl}
@@ -63,7 +64,9 @@ answers =
     ∷ [])
 
 pub cases : map answer asked ≡ answers
-unfolding leAt listed shapeFault risingAfter rising tableFault records orElse lastAt moved single lookupSpec nextOf pieceOf put pieces besideStart fits allFit sumFault windowFault flat roomFor windowSpec windowOut total pairedOr leastTwo sourceIn sourcesIn firstShared clashOf
+unfolding leAt listed shapeFault risingAfter rising tableFault records orElse lastAt moved single lookupSpec nextOf
+    pieceOf put pieces besideStart fits allFit sumFault windowFault flat roomFor windowSpec windowOut total pairedOr
+    leastTwo sourceIn sourcesIn firstShared clashOf
 cases =
     rw (
       ← (clash-given omap.tableT 0x800 0x1400 refl refl (omega arith)),

@@ -1,4 +1,5 @@
--- Demand 3, in one statement (specs/Demand): for every table that is not refused 1, 2, 3 and every window that is not refused 4.
+-- Demand 3, in one statement (specs/Demand): for every table that is not refused 1, 2, 3 and every window that is not
+-- refused 4.
 -- Assumes nothing.
 use mathlib.Core.Path.{_≡_, refl, sym, ap, _∙_}
 use mathlib.Core.Logic.{⊎-elim}
@@ -29,7 +30,12 @@ module _ (s : List ℕ) (a b : ℕ) (w : b ≤ 4294967295) (good : windowFault t
   lands t x v = answered.lookup-told s a b good t x (v .from) (v .below) (value-is (lookupSpec true s x) t (v .lands))
 
   tells : (t x : ℕ) → Source f a b t x → Source (lookedUp true s) a b t x
-  tells t x v = record { from = v .from; below = v .below; lands = ap valueOf (answered.lookup-tells s a b good w t x v) }
+  tells t x v = record {
+    from = v .from;
+    below = v .below;
+    lands = ap valueOf
+        (answered.lookup-tells s a b good w t x v);
+  }
 
   module _ (x y : ℕ) where
     shared : Clash (lookedUp true s) a b x y → Clash f a b x y
@@ -55,9 +61,14 @@ module _ (s : List ℕ) (a b : ℕ) (w : b ≤ 4294967295) (good : windowFault t
     reports = λ h. answered.is-reported s a b good (h .first) (h .second) (shared (h .first) (h .second) (h .clash));
     reported = λ r.
         let l = answered.pair-is s a b good (r .pair) (r .is) in
-        record { is = sharing (r .pair .first) (r .pair .second) (l .is); least = λ x y c. l .least x y (shared x y c) };
+        record {
+          is = sharing (r .pair .first) (r .pair .second) (l .is);
+          least = λ x y c. l .least x y
+              (shared x y c);
+        };
     otherwise = λ n.
-        ⊎-elim (λ (e : clashSpec s a b ≡ value none). e) (λ (r : Reported s a b). absurd (n r)) (answered.single-or-pair s a b good);
+        ⊎-elim (λ (e : clashSpec s a b ≡ value none). e) (λ (r : Reported s a b). absurd (n r))
+        (answered.single-or-pair s a b good);
     source = λ e t x v. answered.source-back s a b good t e x (lands t x v);
     no-source = λ e t n. answered.none-back s a b good t (λ x v. n x (tells t x v));
   }

@@ -1,4 +1,5 @@
--- Each promise leaves one answer: any two results that it allows are equal. An answer can be read back from the paper's own terms.
+-- Each promise leaves one answer: any two results that it allows are equal. An answer can be read back from the paper's
+-- own terms.
 -- Assumes nothing.
 use mathlib.Core.Path.{_≡_, refl}
 use Prim.Native.Nat.{ℕ}
@@ -29,7 +30,8 @@ clashed-back (clashed.Refused Count) = refl
 clashed-back (clashed.Refused Order) = refl
 clashed-back clashed.TooLarge = refl
 
-pub one-clash : (s : List ℕ) (a b : ℕ) (r q : Clashed) → toldClashed r ≡ clashSpec s a b → toldClashed q ≡ clashSpec s a b → r ≡ q
+pub one-clash : (s : List ℕ) (a b : ℕ) (r q : Clashed) → toldClashed r ≡ clashSpec s a b
+    → toldClashed q ≡ clashSpec s a b → r ≡ q
 one-clash s a b = one-answer toldClashed clashedBack clashed-back (clashSpec s a b)
 
 abbrev backBack : Told Sources → Back
@@ -47,5 +49,6 @@ back-back (back.Refused Count) = refl
 back-back (back.Refused Order) = refl
 back-back back.TooLarge = refl
 
-pub one-way-back : (s : List ℕ) (a b t : ℕ) (r q : Back) → toldBack r ≡ backSpec s a b t → toldBack q ≡ backSpec s a b t → r ≡ q
+pub one-way-back : (s : List ℕ) (a b t : ℕ) (r q : Back) → toldBack r ≡ backSpec s a b t → toldBack q ≡ backSpec s a b t
+    → r ≡ q
 one-way-back s a b t = one-answer toldBack backBack back-back (backSpec s a b t)

@@ -1,4 +1,5 @@
--- The records that begin below a window's end, past the one whose piece is searched: their pieces, and what each adds to
+-- The records that begin below a window's end, past the one whose piece is searched: their pieces, and what each adds
+-- to
 -- the search for the first shared target.
 -- Assumes nothing.
 use mathlib.Core.Path.{_≡_, refl, sym, ap, _∙_}
@@ -50,7 +51,8 @@ past-start s a b n p pos r e =
     pieces-from s a b n (length s / 8 - n)
     (λ j m l. omega (arith, next-some s n (omega arith), in-place (keyAt 8 s) (length s / 8) r n j m (omega arith)))
 
-module _ (s : List ℕ) (b last : ℕ) (u : Below s b last) (r : rising (keys 8 s) ≡ true) (bytes : Bytes s) (i : ℕ) (h : i < last) where
+module _ (s : List ℕ) (b last : ℕ) (u : Below s b last) (r : rising (keys 8 s) ≡ true) (bytes : Bytes s) (i : ℕ)
+    (h : i < last) where
   abbrev end : ℕ
   end = min b (nextOf (rest s (i + 1)))
 
@@ -69,7 +71,12 @@ module _ (s : List ℕ) (b last : ℕ) (u : Below s b last) (r : rising (keys 8 
       let in-window : src s i < b = u .before i h in
       ⊎-elim
       (λ (l : i + 1 < length s / 8).
-      omega (arith, next-some s (i + 1) l, each (keyAt 8 s) 0 (length s / 8) r i (i + 1) (omega arith) (omega arith) (omega arith)))
+      omega (
+        arith,
+        next-some s (i + 1) l,
+        each (keyAt 8 s) 0 (length s / 8) r i (i + 1) (omega arith) (omega arith)
+            (omega arith),
+      ))
       (λ (l : length s / 8 ≤ i + 1). omega (arith, next-none s (i + 1) l, below 4 s (8 * i) bytes))
       (lt-or-le (i + 1) (length s / 8))
 
@@ -85,14 +92,21 @@ module _ (s : List ℕ) (b last : ℕ) (u : Below s b last) (r : rising (keys 8 
 
   -- what record i adds to the best found
   module _ (from : ℕ) (best : Best) (m : from < best .target) where
-    same : firstShared (Left i) from (best .target - from) ≡ firstShared (Left (i + 1)) from (best .target - from) → Better s b i from best best
-    same e = record { low = omega arith; high = omega arith; adds = λ d l. ap (λ (o : Option Pair). orElse o (foundBelow d best)) e }
+    same : firstShared (Left i) from (best .target - from) ≡ firstShared (Left (i + 1)) from (best .target - from)
+        → Better s b i from best best
+    same e = record {
+      low = omega arith;
+      high = omega arith;
+      adds = λ d l. ap (λ (o : Option Pair). orElse o
+          (foundBelow d best)) e;
+    }
 
     pub pass-zero : tgt s i ≡ 0 → Better s b i from best best
     pass-zero z = same (ap (λ (l : List Piece). firstShared l from (best .target - from)) (left-zero z))
 
     module _ (z : 0 < tgt s i) where
-      with-piece : firstShared (Left i) from (best .target - from) ≡ firstShared (q ∷ Left (i + 1)) from (best .target - from)
+      with-piece : firstShared (Left i) from (best .target - from) ≡ firstShared (q ∷ Left (i + 1)) from
+          (best .target - from)
       with-piece = ap (λ (l : List Piece). firstShared l from (best .target - from)) (left-piece z)
 
       pub pass-high : best .target ≤ tgt s i → Better s b i from best best
@@ -103,16 +117,19 @@ module _ (s : List ℕ) (b last : ℕ) (u : Below s b last) (r : rising (keys 8 
 
       -- a target found below the best takes its place
       replaced : (t y : ℕ) → from ≤ t → t < best .target
-          → firstShared (Left i) from (best .target - from) ≡ orElse (firstShared (Left (i + 1)) from (t - from)) (some (record { first = t; second = y }))
+          → firstShared (Left i) from (best .target - from) ≡ orElse (firstShared (Left (i + 1)) from (t - from))
+          (some (record { first = t; second = y }))
           → Better s b i from best (record { target = t; source = y })
       replaced t y l k e = record {
         low = l;
         high = omega arith;
-        adds = λ d g. ap (λ (o : Option Pair). orElse o (foundBelow d best)) e ∙ instead (firstShared (Left (i + 1)) from (t - from)) (foundBelow d best) t y d (omega arith);
+        adds = λ d g. ap (λ (o : Option Pair). orElse o (foundBelow d best)) e ∙ instead
+            (firstShared (Left (i + 1)) from (t - from)) (foundBelow d best) t y d (omega arith);
       }
         where
           instead : (o p : Option Pair) (t y d : ℕ) → t < d
-              → orElse (orElse o (some (record { first = t; second = y }))) p ≡ orElse o (foundBelow d (record { target = t; source = y }))
+              → orElse (orElse o (some (record { first = t; second = y }))) p ≡ orElse o
+              (foundBelow d (record { target = t; source = y }))
           instead o p t y d g = rw (lt-ltb t d g) (or-some o (record { first = t; second = y }) p)
 
       pub hit-first : tgt s i ≤ from → from < tgt s i + (end - src s i)
@@ -122,9 +139,11 @@ module _ (s : List ℕ) (b last : ℕ) (u : Below s b last) (r : rising (keys 8 
           let e : from - from ≡ 0 = omega arith in
           replaced from (src s i + (from - tgt s i)) (omega arith) m
           (with-piece ∙ shared-first q (Left (i + 1)) from (best .target) m l k
-          ∙ sym (ap (λ (n : ℕ). orElse (firstShared (Left (i + 1)) from n) (some (record { first = from; second = src s i + (from - tgt s i) }))) e))
+          ∙ sym (ap (λ (n : ℕ). orElse (firstShared (Left (i + 1)) from n)
+          (some (record { first = from; second = src s i + (from - tgt s i) }))) e))
 
-      pub hit-later : from < tgt s i → tgt s i < best .target → Better s b i from best (record { target = tgt s i; source = src s i })
+      pub hit-later : from < tgt s i → tgt s i < best .target → Better s b i from best
+          (record { target = tgt s i; source = src s i })
       hit-later l k =
           let w : src s i < end = some-part in
           replaced (tgt s i) (src s i) (omega arith) k
@@ -145,7 +164,8 @@ module _ (s : List ℕ) (b from end start : ℕ) where
   searching-first h = record {
     low = h;
     high = omega arith;
-    all = found-none (firstShared (pieces 0 b (rest s start)) from (end - from)) end (record { target = end; source = 0 }) (omega arith);
+    all = found-none (firstShared (pieces 0 b (rest s start)) from (end - from)) end
+        (record { target = end; source = 0 }) (omega arith);
   }
 
   module _ (j : ℕ) (best : Best) (w : Searching s b from end start j best) where
@@ -158,7 +178,8 @@ module _ (s : List ℕ) (b from end start : ℕ) where
       searching-more h = record { low = h; high = omega (arith, w .high, k .high); all = all-after }
 
       -- the first target of all is found
-      pub searching-found : from < end → r .target ≤ from → some (record { first = from; second = r .source }) ≡ firstShared (pieces 0 b (rest s start)) from (end - from)
+      pub searching-found : from < end → r .target ≤ from → some
+          (record { first = from; second = r .source }) ≡ firstShared (pieces 0 b (rest s start)) from (end - from)
       unfolding firstShared orElse
       searching-found h l =
           let e : r .target ≡ from = omega (arith, k .low) in
@@ -170,11 +191,13 @@ module _ (s : List ℕ) (b from end start : ℕ) where
       unfolding orElse
       best-left =
           let n : firstShared (pieces 0 b (rest s j)) from (best .target - from) ≡ none
-          = ap (λ (l : List Piece). firstShared l from (best .target - from)) (none-after s b last u o 0 j h) ∙ shared-nothing (best .target - from) from in
+          = ap (λ (l : List Piece). firstShared l from (best .target - from)) (none-after s b last u o 0 j h)
+          ∙ shared-nothing (best .target - from) from in
           rw n at (w .all)
 
       pub searching-some : best .target < end
-          → some (record { first = best .target; second = best .source }) ≡ firstShared (pieces 0 b (rest s start)) from (end - from)
+          → some (record { first = best .target; second = best .source }) ≡ firstShared (pieces 0 b (rest s start)) from
+          (end - from)
       searching-some l = sym (rw (lt-ltb (best .target) end l)) ∙ best-left
 
       pub searching-none : end ≤ best .target → none ≡ firstShared (pieces 0 b (rest s start)) from (end - from)

@@ -35,10 +35,12 @@ module _ (s : List ℕ) (a b i : ℕ) (p : Piece) (n : ℕ) (f : Found true s a 
       shared-in (pieces 0 b (rest s n)) (p .size) (p .to) (record { first = t; second = y }) (sym m ∙ e)
 
   -- the least pair from place i on: that of p, if it shares a target with a later piece, or else that of the later ones
-  pub pair-from : rising (keys 8 s) ≡ true → clashOf (pieces a b (rest s i)) ≡ orElse (fromPiece p o) (clashOf (pieces a b (rest s n)))
+  pub pair-from : rising (keys 8 s) ≡ true → clashOf (pieces a b (rest s i)) ≡ orElse (fromPiece p o)
+      (clashOf (pieces a b (rest s n)))
   unfolding clashOf
   pair-from r =
       let w : i < n = f .further in
       let q : firstShared (pieces a b (rest s n)) (p .to) (p .size) ≡ o
-      = sym (m ∙ ap (λ (l : List Piece). firstShared l (p .to) (p .size)) (sym (past-start s a b n p (omega arith) r (f .owned)))) in
+      = sym (m ∙ ap (λ (l : List Piece). firstShared l (p .to) (p .size))
+      (sym (past-start s a b n p (omega arith) r (f .owned)))) in
       rw (f .first, q)

@@ -1,4 +1,5 @@
--- Sources and clashes of a window by its pieces: what the addresses say, one by one, is what `sourcesIn` and `clashOf` compute.
+-- Sources and clashes of a window by its pieces: what the addresses say, one by one, is what `sourcesIn` and `clashOf`
+-- compute.
 -- Assumes nothing.
 use mathlib.Core.Path.{_≡_, refl, ap, _∙_}
 use mathlib.Core.Logic.{_⊎_, ⊎-elim}
@@ -60,7 +61,8 @@ module _ (t : ℕ) (g : List Sent) where
       rw (ne-eqb v t (λ e. omega arith), z) (run-here n (suc x) (suc v) m (omega arith)))
       (eq-or-lt-of-le l)
 
-sources-run : (t : ℕ) (p : Piece) (g : List Sent) → sourcesAt t (run (p .at) (p .to) (p .size) ++ g) ≡ put (sourceIn t p) (sourcesAt t g)
+sources-run : (t : ℕ) (p : Piece) (g : List Sent) → sourcesAt t (run (p .at) (p .to) (p .size) ++ g) ≡ put
+    (sourceIn t p) (sourcesAt t g)
 unfolding put
 sources-run t p g =
     ⊎-elim
@@ -86,14 +88,23 @@ from-target p x t (y ∷ ys) o c e = rw e
 
 -- from the k-th address of a piece on: no address of the piece shares its target with another of it
 clash-run : (p : Piece) (l : List Piece) (n k : ℕ)
-    → clashIn (run (p .at + k) (p .to + k) n ++ sentPieces l) ≡ orElse (fromPiece p (firstShared l (p .to + k) n)) (clashIn (sentPieces l))
+    → clashIn (run (p .at + k) (p .to + k) n ++ sentPieces l) ≡ orElse (fromPiece p (firstShared l (p .to + k) n))
+    (clashIn (sentPieces l))
 unfolding run clashIn firstShared orElse
 clash-run p l zero k = refl
 clash-run p l (suc n) k =
     let e : suc (p .at + k) ≡ p .at + suc k = omega arith in
     let f : suc (p .to + k) ≡ p .to + suc k = omega arith in
-    rw (run-below (p .to + k) (sentPieces l) n (suc (p .at + k)) (suc (p .to + k)) (omega arith), sources-pieces (p .to + k) l, e, f, clash-run p l n (suc k))
-    (from-target p (p .at + k) (p .to + k) (sourcesIn (p .to + k) l) (firstShared l (p .to + suc k) n) (clashIn (sentPieces l)) (omega arith))
+    rw (
+      run-below (p .to + k) (sentPieces l) n (suc (p .at + k)) (suc (p .to + k)) (omega arith),
+      sources-pieces
+          (p .to + k) l,
+      e,
+      f,
+      clash-run p l n (suc k),
+    )
+    (from-target p (p .at + k) (p .to + k) (sourcesIn (p .to + k) l) (firstShared l (p .to + suc k) n)
+    (clashIn (sentPieces l)) (omega arith))
 
 clash-pieces : (l : List Piece) → clashIn (sentPieces l) ≡ clashOf l
 unfolding clashIn sentPieces clashOf
@@ -101,12 +112,14 @@ clash-pieces [] = refl
 clash-pieces (p ∷ l) =
     let e : p .at + 0 ≡ p .at = omega arith in
     let f : p .to + 0 ≡ p .to = omega arith in
-    let g : clashIn (run (p .at + 0) (p .to + 0) (p .size) ++ sentPieces l) ≡ orElse (fromPiece p (firstShared l (p .to + 0) (p .size))) (clashIn (sentPieces l)) = clash-run p l (p .size) 0 in
+    let g : clashIn (run (p .at + 0) (p .to + 0) (p .size) ++ sentPieces l) ≡ orElse
+    (fromPiece p (firstShared l (p .to + 0) (p .size))) (clashIn (sentPieces l)) = clash-run p l (p .size) 0 in
     (rw (e, f) at g) ∙ ap (orElse (fromPiece p (firstShared l (p .to) (p .size)))) (clash-pieces l)
 
 module _ (a b : ℕ) (l : List Entry) (r : rising (sources l) ≡ true) (w : b ≤ 4294967296) where
   pub sources-by-pieces : (t : ℕ) → sourcesOf (single l) t (range a b) ≡ sourcesIn t (pieces a b l)
-  sources-by-pieces t = sources-sent (single l) t (range a b) ∙ ap (sourcesAt t) (window-sent a b l r w) ∙ sources-pieces t (pieces a b l)
+  sources-by-pieces t = sources-sent (single l) t (range a b) ∙ ap (sourcesAt t) (window-sent a b l r w)
+      ∙ sources-pieces t (pieces a b l)
 
   pub clash-by-pieces : firstClash (single l) (range a b) ≡ clashOf (pieces a b l)
   clash-by-pieces = clash-sent (single l) (range a b) ∙ ap clashIn (window-sent a b l r w) ∙ clash-pieces (pieces a b l)

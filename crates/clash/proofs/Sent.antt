@@ -1,4 +1,5 @@
--- The addresses of a window, each with its translation: those of its pieces, in order. Clashes and sources are read off that list.
+-- The addresses of a window, each with its translation: those of its pieces, in order. Clashes and sources are read off
+-- that list.
 -- Assumes nothing.
 use mathlib.Core.Path.{_≡_, refl, ap, _∙_}
 use mathlib.Core.Logic.{_⊎_, inl, inr, ⊎-elim}
@@ -58,36 +59,52 @@ module _ (f : ℕ → Option ℕ) where
   by-none : (n a : ℕ) → ((d : ℕ) → a ≤ d → d < a + n → f d ≡ none) → sentBy f (upFrom a n) ≡ []
   unfolding sentBy upFrom put
   by-none zero a h = refl
-  by-none (suc n) a h = rw (h a (omega arith) (omega arith)) (by-none n (suc a) (λ d l m. h d (omega arith) (omega arith)))
+  by-none (suc n) a h = rw (h a (omega arith) (omega arith))
+      (by-none n (suc a) (λ d l m. h d (omega arith) (omega arith)))
 
-  by-moved : (n a s t : ℕ) → s ≤ a → ((d : ℕ) → a ≤ d → d < a + n → f d ≡ some (d - s + t)) → sentBy f (upFrom a n) ≡ run a (a - s + t) n
+  by-moved : (n a s t : ℕ) → s ≤ a → ((d : ℕ) → a ≤ d → d < a + n → f d ≡ some (d - s + t)) → sentBy f
+      (upFrom a n) ≡ run a (a - s + t) n
   unfolding sentBy upFrom put run
   by-moved zero a s t l h = refl
   by-moved (suc n) a s t l h =
       let e : suc a - s + t ≡ suc (a - s + t) = omega arith in
-      rw (h a (omega arith) (omega arith), by-moved n (suc a) s t (omega arith) (λ d p q. h d (omega arith) (omega arith)), e)
+      rw (
+        h a (omega arith) (omega arith),
+        by-moved n (suc a) s t (omega arith)
+            (λ d p q. h d (omega arith) (omega arith)),
+        e,
+      )
 
-  by-same : (g : ℕ → Option ℕ) (n a : ℕ) → ((d : ℕ) → a ≤ d → d < a + n → f d ≡ g d) → sentBy f (upFrom a n) ≡ sentBy g (upFrom a n)
+  by-same : (g : ℕ → Option ℕ) (n a : ℕ) → ((d : ℕ) → a ≤ d → d < a + n → f d ≡ g d) → sentBy f (upFrom a n) ≡ sentBy g
+      (upFrom a n)
   unfolding sentBy upFrom
   by-same g zero a h = refl
-  by-same g (suc n) a h = rw (h a (omega arith) (omega arith), by-same g n (suc a) (λ d l m. h d (omega arith) (omega arith)))
+  by-same g (suc n) a h = rw (
+    h a (omega arith) (omega arith),
+    by-same g n (suc a)
+        (λ d l m. h d (omega arith) (omega arith)),
+  )
 
 -- a record with a piece
 one-run : (a b : ℕ) (x : Entry) (l : List Entry) → risingAfter (x .source) (sources l) ≡ true → b ≤ 4294967296
     → max a (x .source) < min b (nextOf l) → (x .target ≡ 0 → ⊥)
     → sentBy (single (x ∷ l)) (range a b)
-    ≡ run (max a (x .source)) (max a (x .source) - x .source + x .target) (min b (nextOf l) - max a (x .source)) ++ sentBy (single l) (range a b)
+    ≡ run (max a (x .source)) (max a (x .source) - x .source + x .target)
+    (min b (nextOf l) - max a (x .source)) ++ sentBy (single l) (range a b)
 one-run a b x l r w h z =
     let f = single (x ∷ l) in
     let g = single l in
     let lo = max a (x .source) in
     let hi = min b (nextOf l) in
     let low : sentBy f (range a lo) ≡ [] = by-none f (lo - a) a (λ d p q. single-below x l r d (omega arith)) in
-    let mid : sentBy f (range lo hi) ≡ run lo (lo - x .source + x .target) (hi - lo) = by-moved f (hi - lo) lo (x .source) (x .target) (omega arith) (λ d p q. single-moved x l r d (omega arith) (omega arith) z) in
-    let top : sentBy f (range hi b) ≡ sentBy g (range hi b) = by-same f g (b - hi) hi (λ d p q. after-same x l d (omega arith) (omega arith)) in
+    let mid : sentBy f (range lo hi) ≡ run lo (lo - x .source + x .target) (hi - lo) = by-moved f (hi - lo) lo
+    (x .source) (x .target) (omega arith) (λ d p q. single-moved x l r d (omega arith) (omega arith) z) in
+    let top : sentBy f (range hi b) ≡ sentBy g (range hi b) = by-same f g (b - hi) hi
+    (λ d p q. after-same x l d (omega arith) (omega arith)) in
     let rest : sentBy g (range a hi) ≡ [] = by-none g (hi - a) a (λ d p q. single-rest x l r d (omega arith)) in
     let whole : sentBy g (range a b) ≡ sentBy g (range hi b)
-    = ap (sentBy g) (range-split a hi b (omega arith) (omega arith)) ∙ by-append g (range a hi) (range hi b) ∙ ap (λ (k : List Sent). k ++ sentBy g (range hi b)) rest in
+    = ap (sentBy g) (range-split a hi b (omega arith) (omega arith)) ∙ by-append g (range a hi) (range hi b)
+    ∙ ap (λ (k : List Sent). k ++ sentBy g (range hi b)) rest in
     let one : range a b ≡ range a lo ++ range lo b = range-split a lo b (omega arith) (omega arith) in
     let two : range lo b ≡ range lo hi ++ range hi b = range-split lo hi b (omega arith) (omega arith) in
     ap (sentBy f) (one ∙ ap (λ (k : List ℕ). range a lo ++ k) two)
@@ -96,12 +113,15 @@ one-run a b x l r w h z =
     ∙ by-append f (range lo hi) (range hi b)
     ∙ rw (mid, top, whole)
 
-pub window-sent : (a b : ℕ) (l : List Entry) → rising (sources l) ≡ true → b ≤ 4294967296 → sentBy (single l) (range a b) ≡ sentPieces (pieces a b l)
+pub window-sent : (a b : ℕ) (l : List Entry) → rising (sources l) ≡ true → b ≤ 4294967296 → sentBy (single l)
+    (range a b) ≡ sentPieces (pieces a b l)
 unfolding rising single moved lastAt pieces sentPieces put
 window-sent a b [] r w = by-none (single []) (b - a) a (λ d p q. refl)
 window-sent a b (x ∷ l) r w =
-    let ih : sentBy (single l) (range a b) ≡ sentPieces (pieces a b l) = window-sent a b l (after-rising (x .source) (sources l) r) w in
-    let none-here : (min b (nextOf l) ≤ max a (x .source)) ⊎ (x .target ≡ 0) → sentBy (single (x ∷ l)) (range a b) ≡ sentBy (single l) (range a b)
+    let ih : sentBy (single l) (range a b) ≡ sentPieces (pieces a b l) = window-sent a b l
+    (after-rising (x .source) (sources l) r) w in
+    let none-here : (min b (nextOf l) ≤ max a (x .source)) ⊎ (x .target ≡ 0) → sentBy (single (x ∷ l))
+    (range a b) ≡ sentBy (single l) (range a b)
     = λ c. by-same (single (x ∷ l)) (single l) (b - a) a (λ d p q. no-piece a b x l r w c d p (omega arith)) in
     ⊎-elim
     (λ (h : max a (x .source) < min b (nextOf l)).
@@ -110,7 +130,8 @@ window-sent a b (x ∷ l) r w =
     (λ (z : 0 < x .target).
     rw (piece-some a b x (nextOf l) h (λ e. omega arith))
     (one-run a b x l r w h (λ e. omega arith)
-    ∙ ap (λ (k : List Sent). run (max a (x .source)) (max a (x .source) - x .source + x .target) (min b (nextOf l) - max a (x .source)) ++ k) ih))
+    ∙ ap (λ (k : List Sent). run (max a (x .source)) (max a (x .source) - x .source + x .target)
+    (min b (nextOf l) - max a (x .source)) ++ k) ih))
     (eq-zero-or-pos (x .target)))
     (λ (h : min b (nextOf l) ≤ max a (x .source)). rw (piece-empty a b x (nextOf l) h) (none-here (inl h) ∙ ih))
     (lt-or-le (max a (x .source)) (min b (nextOf l)))
@@ -126,7 +147,8 @@ clashIn [] = none
 clashIn (q ∷ g) = pairedOr (q .from) (sourcesAt (q .to) g) (clashIn g)
 
 module _ (f : ℕ → Option ℕ) where
-  sources-put : (t x : ℕ) (o : Option ℕ) (l : List ℕ) (g : List Sent) → l ≡ sourcesAt t g → cond (landsOn o t) (x ∷ l) l ≡ sourcesAt t (put (sent x o) g)
+  sources-put : (t x : ℕ) (o : Option ℕ) (l : List ℕ) (g : List Sent) → l ≡ sourcesAt t g → cond (landsOn o t)
+      (x ∷ l) l ≡ sourcesAt t (put (sent x o) g)
   unfolding landsOn put sourcesAt
   sources-put t x none l g e = e
   sources-put t x (some v) l g e = rw e
@@ -136,7 +158,8 @@ module _ (f : ℕ → Option ℕ) where
   sources-sent t [] = refl
   sources-sent t (x ∷ l) = sources-put t x (f x) (sourcesOf f t l) (sentBy f l) (sources-sent t l)
 
-  clash-put : (x : ℕ) (o : Option ℕ) (l : List ℕ) (p : Option Pair) → p ≡ clashIn (sentBy f l) → pairedOr x (sharing f o l) p ≡ clashIn (put (sent x o) (sentBy f l))
+  clash-put : (x : ℕ) (o : Option ℕ) (l : List ℕ) (p : Option Pair) → p ≡ clashIn (sentBy f l) → pairedOr x
+      (sharing f o l) p ≡ clashIn (put (sent x o) (sentBy f l))
   unfolding put clashIn pairedOr
   clash-put x none l p e = e
   clash-put x (some v) l p e = rw (e, sources-sent v l)

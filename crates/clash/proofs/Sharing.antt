@@ -21,7 +21,8 @@ unfolding firstShared sourcesIn pairedOr
 shared-nothing zero t = refl
 shared-nothing (suc n) t = shared-nothing n (suc t)
 
-pair-in : (t n : ℕ) (ys : List ℕ) (o : Option Pair) (m : Pair) → (o ≡ some m → (suc t ≤ m .first) × (m .first < suc t + n))
+pair-in : (t n : ℕ) (ys : List ℕ) (o : Option Pair) (m : Pair)
+    → (o ≡ some m → (suc t ≤ m .first) × (m .first < suc t + n))
     → pairedOr t ys o ≡ some m → (t ≤ m .first) × (m .first < t + suc n)
 unfolding pairedOr
 pair-in t n [] o m h e = let q = h e in (omega arith, omega arith)
@@ -43,7 +44,8 @@ paired-or t (y ∷ ys) o c = refl
 
 module _ (p : Piece) (l : List Piece) where
   -- a piece that has no source of the targets searched plays no part
-  shared-same : (n t : ℕ) → ((v : ℕ) → t ≤ v → v < t + n → sourceIn v p ≡ none) → firstShared (p ∷ l) t n ≡ firstShared l t n
+  shared-same : (n t : ℕ) → ((v : ℕ) → t ≤ v → v < t + n → sourceIn v p ≡ none) → firstShared
+      (p ∷ l) t n ≡ firstShared l t n
   unfolding firstShared sourcesIn put
   shared-same zero t h = refl
   shared-same (suc n) t h =
@@ -73,20 +75,25 @@ module _ (p : Piece) (l : List Piece) where
 
     module _ (y : ℕ) (k : ℕ) where
       shared-at : from ≤ k → k < stop → ((v : ℕ) → from ≤ v → v < k → sourceIn v p ≡ none) → sourceIn k p ≡ some y
-          → firstShared (p ∷ l) from (stop - from) ≡ orElse (firstShared l from (k - from)) (some (record { first = k; second = y }))
+          → firstShared (p ∷ l) from (stop - from) ≡ orElse (firstShared l from (k - from))
+          (some (record { first = k; second = y }))
       shared-at h m none-before e =
           let n : stop - from ≡ (k - from) + suc (stop - k - 1) = omega arith in
           let q : from + (k - from) ≡ k = omega arith in
-          let c : firstShared (p ∷ l) from ((k - from) + suc (stop - k - 1)) ≡ orElse (firstShared l from (k - from)) (some (record { first = from + (k - from); second = y }))
+          let c : firstShared (p ∷ l) from ((k - from) + suc (stop - k - 1)) ≡ orElse (firstShared l from (k - from))
+          (some (record { first = from + (k - from); second = y }))
           = shared-cut (k - from) (stop - k - 1) from y (λ v u z. none-before v u (omega arith)) (rw q e) in
-          ap (firstShared (p ∷ l) from) n ∙ c ∙ ap (λ (i : ℕ). orElse (firstShared l from (k - from)) (some (record { first = i; second = y }))) q
+          ap (firstShared (p ∷ l) from) n ∙ c
+          ∙ ap (λ (i : ℕ). orElse (firstShared l from (k - from)) (some (record { first = i; second = y }))) q
 
     -- the piece begins among the targets
     pub shared-here : from ≤ p .to → p .to < stop → 0 < p .size
-        → firstShared (p ∷ l) from (stop - from) ≡ orElse (firstShared l from (p .to - from)) (some (record { first = p .to; second = p .at }))
+        → firstShared (p ∷ l) from (stop - from) ≡ orElse (firstShared l from (p .to - from))
+        (some (record { first = p .to; second = p .at }))
     shared-here h m z =
         let e : p .at + (p .to - p .to) ≡ p .at = omega arith in
-        shared-at (p .at) (p .to) h m (λ v u q. source-below v p q) (source-here (p .to) p (omega arith) (omega arith) ∙ ap some e)
+        shared-at (p .at) (p .to) h m (λ v u q. source-below v p q)
+        (source-here (p .to) p (omega arith) (omega arith) ∙ ap some e)
 
     -- the piece holds the first of them
     pub shared-first : from < stop → p .to ≤ from → from < p .to + p .size
@@ -95,4 +102,5 @@ module _ (p : Piece) (l : List Piece) where
     shared-first m h z =
         let e : from - from ≡ 0 = omega arith in
         shared-at (p .at + (from - p .to)) from (omega arith) m (λ v u q. absurd (omega arith)) (source-here from p h z)
-        ∙ ap (λ (i : ℕ). orElse (firstShared l from i) (some (record { first = from; second = p .at + (from - p .to) }))) e
+        ∙ ap (λ (i : ℕ). orElse (firstShared l from i)
+        (some (record { first = from; second = p .at + (from - p .to) }))) e

@@ -13,7 +13,8 @@ use Rattle.omap.specs.Records.{Entry}
 use Rattle.omap.specs.Window.{nextOf, pieceOf, pieces}
 use Rattle.omap.specs.Output.{allFit}
 use Rattle.omap.specs.declared.walk.Piece.{Piece}
-use Rattle.omap.proofs.Pieces.{between, piece-empty, piece-zero, piece-some, fits-target, fits-less, fit-more, first-fits, others-fit}
+use Rattle.omap.proofs.Pieces.{between, piece-empty, piece-zero, piece-some, fits-target, fits-less, fit-more}
+use Rattle.omap.proofs.Pieces.{first-fits, others-fit}
 use Rattle.clash.specs.Shared.{sourcesIn}
 use Rattle.clash.proofs.Runs.{source-past}
 
@@ -22,15 +23,21 @@ ends : (lo hi source target : ℕ) → source ≤ lo → lo < hi → lo - source
 ends lo hi source target h l = omega arith
 
 no-later : (a b c d source e target : ℕ) → a ≤ c → d ≤ b → max c source < min d e
-    → max c source - source + target + (min d e - max c source) ≤ max a source - source + target + (min b e - max a source)
+    → max c source - source + target + (min d e - max c source) ≤ max a source - source + target +
+    (min b e - max a source)
 no-later a b c d source e target h k l =
     let m : max a source < min b e = omega arith in
     let z : min d e ≤ min b e = omega arith in
-    rw (ends (max c source) (min d e) source target (omega arith) l, ends (max a source) (min b e) source target (omega arith) m) (omega arith)
+    rw (
+      ends (max c source) (min d e) source target (omega arith) l,
+      ends (max a source) (min b e) source target
+          (omega arith) m,
+    ) (omega arith)
 
 -- a ≤ c and d ≤ b: what fits in a..b fits in c..d
 module _ (a b c d : ℕ) (h : a ≤ c) (k : d ≤ b) where
-  module _ (x : Entry) (e : ℕ) (l m : List Piece) (f : allFit (put (pieceOf a b x e) l) ≡ true) (g : allFit l ≡ true → allFit m ≡ true) where
+  module _ (x : Entry) (e : ℕ) (l m : List Piece) (f : allFit (put (pieceOf a b x e) l) ≡ true)
+      (g : allFit l ≡ true → allFit m ≡ true) where
     unmapped : x .target ≡ 0 → allFit (put (pieceOf c d x e) m) ≡ true
     unfolding put
     unmapped z = rw (piece-zero c d x e z) (g (rw (piece-zero a b x e z) at f))
@@ -57,7 +64,8 @@ module _ (a b c d : ℕ) (h : a ≤ c) (k : d ≤ b) where
       inside w =
           let here = with-large (omega arith) in
           let small = between x (max c (x .source)) (min d e) in
-          let fit = fits-less large (first-fits large l here) small (no-later a b c d (x .source) e (x .target) h k w) in
+          let fit = fits-less large (first-fits large l here) small
+          (no-later a b c d (x .source) e (x .target) h k w) in
           rw (piece-some c d x e w (λ n. omega arith)) (fit-more small m fit ∙ g (others-fit large l here))
 
   pub smaller-fits : (l : List Entry) → allFit (pieces a b l) ≡ true → allFit (pieces c d l) ≡ true

@@ -1,4 +1,5 @@
--- What the answers say of the addresses, over any translation: the least clash is one, and the sources found are none, one, or the two least.
+-- What the answers say of the addresses, over any translation: the least clash is one, and the sources found are none,
+-- one, or the two least.
 -- Assumes nothing.
 use mathlib.Core.Path.{_≡_, refl, sym, ap, _∙_}
 use mathlib.Core.Logic.{_⊎_, inl, inr, ⊎-elim}
@@ -25,7 +26,8 @@ fitted-is none t e = cc
 fitted-is (some v) t e = ap some (fitted-case (leb v 4294967295) v t e)
 
 same-pair : (p q : Pair) → p .first ≡ q .first → p .second ≡ q .second → p ≡ q
-same-pair p q e g = let h : _≡_ {A = Pair} (record { first = p .first; second = p .second }) (record { first = q .first; second = q .second }) = rw (e, g) in h
+same-pair p q e g = let h : _≡_ {A = Pair} (record { first = p .first; second = p .second })
+    (record { first = q .first; second = q .second }) = rw (e, g) in h
 
 -- two least clashes are one
 pub one-least : (f : ℕ → Option ℕ) (a b : ℕ) (p q : Pair) → LeastClash f a b p → LeastClash f a b q → p ≡ q
@@ -44,13 +46,16 @@ one-least f a b p q l m =
     (l .least (q .first) (q .second) (m .is))
 
 -- two addresses with one target are one, or clash
-pub meet-or-clash : (f : ℕ → Option ℕ) (a b t x y : ℕ) → ((v w : ℕ) → Clash f a b v w → ⊥) → Source f a b t x → Source f a b t y → x ≡ y
+pub meet-or-clash : (f : ℕ → Option ℕ) (a b t x y : ℕ) → ((v w : ℕ) → Clash f a b v w → ⊥) → Source f a b t x
+    → Source f a b t y → x ≡ y
 meet-or-clash f a b t x y n v w =
     ⊎-elim
-    (λ (l : x < y). absurd (n x y (record { from = v .from; apart = l; below = w .below; target = t; first = v .lands; second = w .lands })))
+    (λ (l : x < y). absurd (n x y (record
+    { from = v .from; apart = l; below = w .below; target = t; first = v .lands; second = w .lands })))
     (λ (l : y ≤ x).
     ⊎-elim
-    (λ (m : y < x). absurd (n y x (record { from = w .from; apart = m; below = v .below; target = t; first = w .lands; second = v .lands })))
+    (λ (m : y < x). absurd (n y x (record
+    { from = w .from; apart = m; below = v .below; target = t; first = w .lands; second = v .lands })))
     (λ (m : x ≤ y). omega arith)
     (lt-or-le y x))
     (lt-or-le x y)
@@ -86,7 +91,8 @@ module _ (f : ℕ → Option ℕ) (a b t : ℕ) where
         only = λ v w.
             let m : x ≤ v = r .least v w in
             ⊎-elim
-            (λ (g : x < v). absurd (no-source f (suc x) b t (sym (r .others)) v (record { from = g; below = w .below; lands = w .lands })))
+            (λ (g : x < v). absurd (no-source f (suc x) b t (sym (r .others)) v
+            (record { from = g; below = w .below; lands = w .lands })))
             (λ (g : v ≤ x). omega arith)
             (lt-or-le x v);
       }

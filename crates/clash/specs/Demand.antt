@@ -1,4 +1,5 @@
--- The words of demand 3: what a clash and a source are, of the addresses of a window a..b, its end b excluded, and a translation f.
+-- The words of demand 3: what a clash and a source are, of the addresses of a window a..b, its end b excluded, and a
+-- translation f.
 use mathlib.Core.Path.{_≡_}
 use mathlib.Core.Logic.{_⊎_}
 use mathlib.Core.Bool.{true}
@@ -60,5 +61,7 @@ pub record Demand3 (s : List ℕ) (a b : ℕ) : Type 0 where
   -- there is no other answer than a clash and "single"
   pub otherwise : (Reported s a b → ⊥) → clashSpec s a b ≡ value none
   -- where the window is single, going back yields the one source, or none exactly if no address lands there
-  pub source : clashSpec s a b ≡ value none → (t x : ℕ) → Source (lookedUp true s) a b t x → backSpec s a b t ≡ value (one x)
-  pub no-source : clashSpec s a b ≡ value none → (t : ℕ) → ((x : ℕ) → Source (lookedUp true s) a b t x → ⊥) → backSpec s a b t ≡ nothing
+  pub source : clashSpec s a b ≡ value none → (t x : ℕ) → Source (lookedUp true s) a b t x → backSpec s a b t ≡ value
+      (one x)
+  pub no-source : clashSpec s a b ≡ value none → (t : ℕ) → ((x : ℕ) → Source (lookedUp true s) a b t x → ⊥)
+      → backSpec s a b t ≡ nothing

@@ -48,7 +48,8 @@ toldShared (shared.At t y) = some (record { first = t; second = y })
 abbrev pub foundBelow : ℕ → Best → Option Pair
 foundBelow end best = cond (ltb (best .target) end) (some (record { first = best .target; second = best .source })) none
 
--- r is the best of `best` and of record i: with the records after it, searched up to r, it gives what those from i on gave
+-- r is the best of `best` and of record i: with the records after it, searched up to r, it gives what those from i on
+-- gave
 pub record Better (s : List ℕ) (b i from : ℕ) (best r : Best) : Type 0 where
   pub low : from ≤ r .target
   pub high : r .target ≤ best .target

@@ -2,7 +2,7 @@
 ghost use mathlib.Core.Path.{_≡_};
 ghost use lib.ListN.{length};
 ghost use Rattle.omap.specs.Output.{windowSpec};
-ghost use Rattle.ranges.specs.Shown.{listOut};
+ghost use Rattle.ranges.specs.ListOut.{listOut};
 ghost use Rattle.gillacorn.specs.Windows.{piecesAnswer};
 use crate::windows::PiecesAnswer;
 use crate::windows::pieces_answer;

@@ -22,4 +22,5 @@ pub one-checked : (r q : Checked) → toldChecked r ≡ toldChecked q → r ≡ 
 one-checked checked.Good checked.Good e = refl
 one-checked checked.Good (checked.Refused w) e = cc
 one-checked (checked.Refused v) checked.Good e = cc
-one-checked (checked.Refused v) (checked.Refused w) e = let n : number v ≡ number w = cc in let s : v ≡ w = one-number v w n in cc
+one-checked (checked.Refused v)
+    (checked.Refused w) e = let n : number v ≡ number w = cc in let s : v ≡ w = one-number v w n in cc

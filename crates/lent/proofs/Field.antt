@@ -1,4 +1,5 @@
--- The decoding fact, over the field's width: a field of w bytes is below 256 ^ w. The widths that the code reads follow.
+-- The decoding fact, over the field's width: a field of w bytes is below 256 ^ w. The widths that the code reads
+-- follow.
 -- Assumes nothing.
 use mathlib.Core.Path.{_≡_}
 use Prim.Native.Nat.{ℕ, zero, suc, _+_, _-_, _*_, _^_, _≤_, _<_}
@@ -28,6 +29,7 @@ module _ (s : List ℕ) (at : ℕ) where
   unfolding leAt
   two-bytes = rw add-one (omega arith)
 
-  pub four-bytes : leAt 4 s at ≡ getD s at 0 + getD s (at + 1) 0 * 256 + getD s (at + 2) 0 * 65536 + getD s (at + 3) 0 * 16777216
+  pub four-bytes : leAt 4 s at ≡ getD s at 0 + getD s (at + 1) 0 * 256 + getD s (at + 2) 0 * 65536 + getD s
+      (at + 3) 0 * 16777216
   unfolding leAt
   four-bytes = rw (add-one, add-two, add-three at) (omega arith)

@@ -31,16 +31,25 @@ module _ {A : Type 0} (key : A → ℕ) (f : ℕ → A) where
   unfolding lastAt listed orElse
   last-none i zero a h = refl
   last-none i (suc n) a h =
-      rw (last-none (suc i) n a (λ j m l. h j (omega arith) (omega arith)), lt-leb (key (f i)) a (h i (omega arith) (omega arith)))
+      rw (
+        last-none (suc i) n a (λ j m l. h j (omega arith) (omega arith)),
+        lt-leb (key (f i)) a
+            (h i (omega arith) (omega arith)),
+      )
 
   -- the one at k is at or below a, and none after it is
-  pub last-some : (i n a k : ℕ) → i ≤ k → k < i + n → key (f k) ≤ a → ((j : ℕ) → k < j → j < i + n → a < key (f j)) → lastAt key a (listed f i n) ≡ some (f k)
+  pub last-some : (i n a k : ℕ) → i ≤ k → k < i + n → key (f k) ≤ a → ((j : ℕ) → k < j → j < i + n → a < key (f j))
+      → lastAt key a (listed f i n) ≡ some (f k)
   unfolding lastAt listed orElse
   last-some i zero a k h l b g = absurd (omega arith)
   last-some i (suc n) a k h l b g =
       ⊎-elim
       (λ (e : i ≡ k).
-      rw (last-none (suc i) n a (λ j m q. g j (omega arith) (omega arith)), le-leb (key (f i)) a (subst (λ (q : ℕ). key (f q) ≤ a) (sym e) b))
+      rw (
+        last-none (suc i) n a (λ j m q. g j (omega arith) (omega arith)),
+        le-leb (key (f i)) a
+            (subst (λ (q : ℕ). key (f q) ≤ a) (sym e) b),
+      )
       (ap (λ (q : ℕ). some (f q)) e))
       (λ (m : i < k). rw (last-some (suc i) n a k m (omega arith) b (λ j q z. g j q (omega arith))))
       (eq-or-lt-of-le h)
@@ -50,7 +59,8 @@ module _ {A : Type 0} (key : A → ℕ) (f : ℕ → A) where
     pub found : (k : ℕ) → 0 < k → FirstAbove w s a k → lastAt key a (listed f 0 (length s / w)) ≡ some (f (k - 1))
     found k pos u =
         let n : k ≤ length s / w = u .within in
-        last-some 0 (length s / w) a (k - 1) (omega arith) (omega arith) (omega (arith, same (k - 1), u .below (k - 1) (omega arith)))
+        last-some 0 (length s / w) a (k - 1) (omega arith) (omega arith)
+        (omega (arith, same (k - 1), u .below (k - 1) (omega arith)))
         (λ j h l. omega (arith, same j, u .above j (omega arith) (omega arith)))
 
     pub found-none : FirstAbove w s a 0 → lastAt key a (listed f 0 (length s / w)) ≡ none

@@ -31,9 +31,11 @@ regrouped fault false u = rw (one-of-two fault, and-false (eqb fault 0))
 module _ (f : ℕ → ℕ) where
   module _ (i n p : ℕ) (h : i < n) where
     -- the order of the numbers left, by the first of them; a fault, once found, stays
-    pub after-step : (fault : ℕ) → (eqb fault 0 && risingAfter p (listed f i (n - i))) ≡ (eqb (bitOr fault (cond (ltb p (f i)) 0 1)) 0 && risingAfter (f i) (listed f (i + 1) (n - (i + 1))))
+    pub after-step : (fault : ℕ) → (eqb fault 0 && risingAfter p (listed f i (n - i))) ≡ (eqb
+        (bitOr fault (cond (ltb p (f i)) 0 1)) 0 && risingAfter (f i) (listed f (i + 1) (n - (i + 1))))
     unfolding risingAfter
-    after-step fault = rw (listed-step f i n h) (regrouped fault (ltb p (f i)) (risingAfter (f i) (listed f (i + 1) (n - (i + 1)))))
+    after-step fault = rw (listed-step f i n h)
+        (regrouped fault (ltb p (f i)) (risingAfter (f i) (listed f (i + 1) (n - (i + 1)))))
 
   -- the order of all is that of those after the first
   pub rising-first : (n : ℕ) → 0 < n → rising (listed f 0 n) ≡ risingAfter (f 0) (listed f 1 (n - 1))
@@ -53,7 +55,8 @@ module _ (f : ℕ → ℕ) where
   after-each i zero p r j h l = absurd (omega arith)
   after-each i (suc n) p r j h l =
       let here : p < f i = ltb-true p (f i) (and-left (ltb p (f i)) (risingAfter (f i) (listed f (suc i) n)) r) in
-      let rest : risingAfter (f i) (listed f (suc i) n) ≡ true = and-right (ltb p (f i)) (risingAfter (f i) (listed f (suc i) n)) r in
+      let rest : risingAfter (f i) (listed f (suc i) n) ≡ true = and-right (ltb p (f i))
+      (risingAfter (f i) (listed f (suc i) n)) r in
       ⊎-elim
       (λ (e : i ≡ j). subst (λ (k : ℕ). p < f k) e here)
       (λ (m : i < j). omega (arith, after-each (suc i) n (f i) rest j m (omega arith)))

@@ -23,7 +23,13 @@ middle lo hi = lo + (hi - lo) / 2
 
 module _ (w : ℕ) (s : List ℕ) (a : ℕ) where
   pub halving-first : Halving w s a 0 (length s / w)
-  halving-first = record { up = omega arith; within = omega arith; below = λ j h. absurd (omega arith); above = λ j h l. absurd (omega arith) }
+  halving-first = record {
+    up = omega arith;
+    within = omega arith;
+    below = λ j h. absurd
+        (omega arith);
+    above = λ j h l. absurd (omega arith);
+  }
 
   module _ (lo hi : ℕ) (v : Halving w s a lo hi) where
     pub halving-last : hi ≤ lo → FirstAbove w s a lo
@@ -34,14 +40,19 @@ module _ (w : ℕ) (s : List ℕ) (a : ℕ) where
 
     module _ (r : rising (keys w s) ≡ true) (h : lo < hi) where
       here : (t : Bool) → leb (keyAt w s (middle lo hi)) a ≡ t
-          → Halving w s a (cond t (middle lo hi + 1) lo) (cond t hi (middle lo hi)) × (cond t hi (middle lo hi) - cond t (middle lo hi + 1) lo < hi - lo)
+          → Halving w s a (cond t (middle lo hi + 1) lo)
+          (cond t hi (middle lo hi)) × (cond t hi (middle lo hi) - cond t (middle lo hi + 1) lo < hi - lo)
       here true e =
           let n : hi ≤ length s / w = v .within in
           let at : keyAt w s (middle lo hi) ≤ a = leb-true (keyAt w s (middle lo hi)) a e in (
             record {
               up = omega arith;
               within = n;
-              below = λ j l. omega (arith, in-place (keyAt w s) (length s / w) r j (middle lo hi) (omega arith) (omega arith));
+              below = λ j l. omega (
+                arith,
+                in-place (keyAt w s) (length s / w) r j (middle lo hi) (omega arith)
+                    (omega arith),
+              );
               above = v .above;
             },
             omega arith,
@@ -53,12 +64,17 @@ module _ (w : ℕ) (s : List ℕ) (a : ℕ) where
               up = omega arith;
               within = omega arith;
               below = v .below;
-              above = λ j l m. omega (arith, in-place (keyAt w s) (length s / w) r (middle lo hi) j (omega arith) (omega arith));
+              above = λ j l m. omega (
+                arith,
+                in-place (keyAt w s) (length s / w) r (middle lo hi) j (omega arith)
+                    (omega arith),
+              );
             },
             omega arith,
           )
 
       -- the run after the record in the middle, or the one before it; either is shorter
-      pub halving-next : (t : Bool) → t ≡ leb (keyAt w s (middle lo hi)) a → (lo′ hi′ : ℕ) → lo′ ≡ cond t (middle lo hi + 1) lo → hi′ ≡ cond t hi (middle lo hi)
+      pub halving-next : (t : Bool) → t ≡ leb (keyAt w s (middle lo hi)) a → (lo′ hi′ : ℕ) → lo′ ≡ cond t
+          (middle lo hi + 1) lo → hi′ ≡ cond t hi (middle lo hi)
           → Halving w s a lo′ hi′ × (hi′ - lo′ < hi - lo)
       halving-next t e lo′ hi′ p q = rw (p, q, e) (here (leb (keyAt w s (middle lo hi)) a) refl)

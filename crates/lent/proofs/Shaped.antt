@@ -17,4 +17,5 @@ few false b e = cc
 
 pub at-most : (k : Kind) (s : List ℕ) → none ≡ shapeFault k s → length s / k .width ≤ k .most
 unfolding shapeFault
-at-most k s e = leb-true (length s / k .width) (k .most) (few (eqb (length s % k .width) 0) (leb (length s / k .width) (k .most)) e)
+at-most k s e = leb-true (length s / k .width) (k .most)
+    (few (eqb (length s % k .width) 0) (leb (length s / k .width) (k .most)) e)

@@ -14,7 +14,8 @@ use Rattle.lent.specs.Order.{risingAfter, rising, tableFault, lastAt}
 use Rattle.omap.specs.Records.{records, holderOf, moved, single}
 use Rattle.omap.specs.Lookup.{lookupSpec}
 use Rattle.omap.specs.Window.{nextOf, pieceOf, pieces, windowPieces}
-use Rattle.omap.specs.Output.{besideStart, fits, allFit, sumFault, windowFault, flat, Window, counted, refusedAs, refusedFor, roomFor, windowSpec, windowOut}
+use Rattle.omap.specs.Output.{besideStart, fits, allFit, sumFault, windowFault, flat, Window, counted, refusedAs}
+use Rattle.omap.specs.Output.{refusedFor, roomFor, windowSpec, windowOut}
 use Rattle.omap.specs.Expand.{total}
 
 -- 1000→5000, 1100→0, 1200→4000, 1300→5080
@@ -74,5 +75,6 @@ answers =
     ∷ []
 
 pub cases : map answer asked ≡ answers
-unfolding leAt listed shapeFault risingAfter rising tableFault records orElse lastAt moved single lookupSpec nextOf pieceOf put pieces besideStart fits allFit sumFault windowFault flat roomFor windowSpec windowOut total
+unfolding leAt listed shapeFault risingAfter rising tableFault records orElse lastAt moved single lookupSpec nextOf
+    pieceOf put pieces besideStart fits allFit sumFault windowFault flat roomFor windowSpec windowOut total
 cases = refl

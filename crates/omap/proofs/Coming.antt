@@ -49,12 +49,17 @@ piece-same a d b x e h l =
     rw m
 
 -- the window may begin anywhere before the first source
-pieces-same : (a d b p : ℕ) (l : List Entry) → risingAfter p (sources l) ≡ true → a ≤ p → d ≤ p → pieces a b l ≡ pieces d b l
+pieces-same : (a d b p : ℕ) (l : List Entry) → risingAfter p (sources l) ≡ true → a ≤ p → d ≤ p
+    → pieces a b l ≡ pieces d b l
 unfolding pieces
 pieces-same a d b p [] r h m = refl
 pieces-same a d b p (x ∷ l) r h m =
     let up : p < x .source = first-above p x l r in
-    rw (piece-same a d b x (nextOf l) (omega arith) (omega arith), pieces-same a d b (x .source) l (rest-above p x l r) (omega arith) (omega arith))
+    rw (
+      piece-same a d b x (nextOf l) (omega arith) (omega arith),
+      pieces-same a d b (x .source) l (rest-above p x l r)
+          (omega arith) (omega arith),
+    )
 
 module _ (c : Cursor) (x : Entry) (l : List Entry) (p : ℕ) (i : Inside c (x ∷ l)) (h : c .address < c .end) where
   up : c .address < x .source
@@ -74,7 +79,12 @@ module _ (c : Cursor) (x : Entry) (l : List Entry) (p : ℕ) (i : Inside c (x �
   from-next : pieces (c .address) (c .end) (x ∷ l) ≡ come (pulled x p c) l
   unfolding pieces
   from-next =
-      rw (piece-same (c .address) (min (x .source) (c .end)) (c .end) x (nextOf l) (omega (arith, up)) (omega arith), pieces-same (c .address) (min (x .source) (c .end)) (c .end) (x .source) l after (omega (arith, up)) (omega arith))
+      rw (
+        piece-same (c .address) (min (x .source) (c .end)) (c .end) x (nextOf l) (omega (arith, up))
+            (omega arith),
+        pieces-same (c .address) (min (x .source) (c .end)) (c .end) (x .source) l after
+            (omega (arith, up)) (omega arith),
+      )
 
   come-zero : c .target ≡ 0 → come c (x ∷ l) ≡ come (pulled x p c) l
   unfolding pieces put nextOf
@@ -87,7 +97,8 @@ module _ (c : Cursor) (x : Entry) (l : List Entry) (p : ℕ) (i : Inside c (x �
       let u = up in
       let m : max (c .address) (c .source) ≡ c .address = omega arith in
       let n : min (c .end) (x .source) ≡ min (x .source) (c .end) = omega arith in
-      rw (piece-some (c .address) (c .end) (on c) (x .source) (omega arith) z, m, n) (ap (λ (k : List Piece). turnWith x p c .part ∷ k) from-next)
+      rw (piece-some (c .address) (c .end) (on c) (x .source) (omega arith) z, m, n)
+      (ap (λ (k : List Piece). turnWith x p c .part ∷ k) from-next)
 
 -- what is yielded of pieces one at a time, where out is yielded of those after the first
 abbrev onePiece : (List Piece → Told (List ℕ)) → List Piece → Told (List ℕ)
@@ -96,12 +107,14 @@ onePiece out (p ∷ l) = cond (fits p) (andThen (out l) (λ (k : List ℕ). valu
 
 module _ (then : Cursor → Told (List ℕ)) (out : List Piece → Told (List ℕ)) where
   by-fit : (t : Bool) (f e : ℕ) (c₀ k : Cursor) (q : List Piece) → then k ≡ out q
-      → yielded (cond t (piece f e k) (refusedAt 4 c₀)) then ≡ cond t (andThen (out q) (λ (j : List ℕ). value (f ∷ (e ∷ j)))) (refused 4)
+      → yielded (cond t (piece f e k) (refusedAt 4 c₀)) then ≡ cond t
+      (andThen (out q) (λ (j : List ℕ). value (f ∷ (e ∷ j)))) (refused 4)
   by-fit true f e c₀ k q s = rw s
   by-fit false f e c₀ k q s = refl
 
   -- a turn with x, where what follows is known
-  turn-yields : (c₀ c : Cursor) (x : Entry) (l : List Entry) (p : ℕ) (ts : List Turn) → Inside c (x ∷ l) → c .address < c .end
+  turn-yields : (c₀ c : Cursor) (x : Entry) (l : List Entry) (p : ℕ) (ts : List Turn) → Inside c (x ∷ l)
+      → c .address < c .end
       → then (pulled x p c) ≡ out (come (pulled x p c) l)
       → yielded (firstPiece c₀ (pulled x p c) ts) then ≡ onePiece out (come (pulled x p c) l)
       → yielded (firstPiece c₀ c (turnWith x p c ∷ ts)) then ≡ onePiece out (come c (x ∷ l))
@@ -112,7 +125,12 @@ module _ (then : Cursor → Told (List ℕ)) (out : List Piece → Told (List �
       (λ (z : 0 < c .target).
       let u : c .address < x .source = up c x l p i h in
       let t = turnWith x p c in
-      rw (part-some x p c (omega arith) (λ q. omega arith), le-leb (c .source) (c .address) (i .begun h), come-mapped c x l p i h (λ q. omega arith))
+      rw (
+        part-some x p c (omega arith) (λ q. omega arith),
+        le-leb (c .source) (c .address)
+            (i .begun h),
+        come-mapped c x l p i h (λ q. omega arith),
+      )
       (by-fit (fits (t .part)) (t .part .to) (besideStart (t .part)) c₀ (pulled x p c) (come (pulled x p c) l) s))
       (eq-zero-or-pos (c .target))
 
@@ -140,11 +158,13 @@ tail-is s i x l e =
 
 module _ (s : List ℕ) (then : Cursor → Told (List ℕ)) (out : List Piece → Told (List ℕ))
     (known : (k : Cursor) (l : List Entry) → rest s (k .place) ≡ l → Inside k l → then k ≡ out (come k l)) where
-  used-up : (l : List Entry) (c₀ c : Cursor) → c .end ≤ c .address → yielded (walk c₀ l c) then ≡ onePiece out (come c l)
+  used-up : (l : List Entry) (c₀ c : Cursor) → c .end ≤ c .address → yielded (walk c₀ l c) then ≡ onePiece out
+      (come c l)
   used-up l c₀ c h = rw (walk-done l c₀ c h, empty-window (c .address) (c .end) h (on c ∷ l))
 
   -- a step yields the first piece to come
-  walk-yields : (l : List Entry) (c₀ c : Cursor) → rest s (c .place) ≡ l → Inside c l → yielded (walk c₀ l c) then ≡ onePiece out (come c l)
+  walk-yields : (l : List Entry) (c₀ c : Cursor) → rest s (c .place) ≡ l → Inside c l → yielded
+      (walk c₀ l c) then ≡ onePiece out (come c l)
   unfolding turns firstPiece
   walk-yields [] c₀ c at i =
       ⊎-elim
@@ -152,7 +172,8 @@ module _ (s : List ℕ) (then : Cursor → Told (List ℕ)) (out : List Piece �
       let k = pulled (endOf c) (c .place) c in
       let there : Inside c (endOf c ∷ []) = inside-end c i h in
       rw (lt-ltb (c .address) (c .end) h, come-end c (i .small))
-      (turn-yields then out c₀ c (endOf c) [] (c .place) [] there h (known k [] at (inside-next c (endOf c) [] (c .place) there h))
+      (turn-yields then out c₀ c (endOf c) [] (c .place) [] there h
+      (known k [] at (inside-next c (endOf c) [] (c .place) there h))
       (rw (empty-window (k .address) (k .end) (omega arith) (on k ∷ [])))))
       (λ (h : c .end ≤ c .address). used-up [] c₀ c h)
       (lt-or-le (c .address) (c .end))
@@ -162,7 +183,8 @@ module _ (s : List ℕ) (then : Cursor → Told (List ℕ)) (out : List Piece �
       let next : Inside (pulled x (c .place + 1) c) l = inside-next c x l (c .place + 1) i h in
       let more : rest s (c .place + 1) ≡ l = tail-is s (c .place) x l at in
       rw (lt-ltb (c .address) (c .end) h)
-      (turn-yields then out c₀ c x l (c .place + 1) (turns l (pulled x (c .place + 1) c)) i h (known (pulled x (c .place + 1) c) l more next)
+      (turn-yields then out c₀ c x l (c .place + 1) (turns l (pulled x (c .place + 1) c)) i h
+      (known (pulled x (c .place + 1) c) l more next)
       (walk-yields l c₀ (pulled x (c .place + 1) c) more next)))
       (λ (h : c .end ≤ c .address). used-up (x ∷ l) c₀ c h)
       (lt-or-le (c .address) (c .end))
@@ -173,11 +195,13 @@ steps zero l = nothing
 steps (suc n) l = onePiece (steps n) l
 
 module _ (present : Bool) (s : List ℕ) (shaped : none ≡ omapShape (ifPresent present s)) where
-  pub run-yields : (n : ℕ) (c : Cursor) (l : List Entry) → rest (ifPresent present s) (c .place) ≡ l → Inside c l → run present s n c ≡ steps n (come c l)
+  pub run-yields : (n : ℕ) (c : Cursor) (l : List Entry) → rest (ifPresent present s) (c .place) ≡ l → Inside c l
+      → run present s n c ≡ steps n (come c l)
   unfolding run steps
   run-yields zero c l at i = refl
   run-yields (suc n) c l at i =
-      rw (step-good present s (ifPresent present s) c refl shaped, at) (walk-yields (ifPresent present s) (run present s n) (steps n) (run-yields n) l c c at i)
+      rw (step-good present s (ifPresent present s) c refl shaped, at)
+      (walk-yields (ifPresent present s) (run present s n) (steps n) (run-yields n) l c c at i)
 
 both : (f g : Bool) (x y : ℕ) (l : List ℕ)
     → cond f (andThen (unless (cond g none (some 4)) (value l)) (λ (k : List ℕ). value (x ∷ (y ∷ k)))) (refused 4)
@@ -191,9 +215,11 @@ pub steps-all : (n : ℕ) (l : List Piece) → length l < n → steps n l ≡ en
 unfolding steps entries sumFault allFit flat
 steps-all zero l h = absurd (omega arith)
 steps-all (suc n) [] h = refl
-steps-all (suc n) (p ∷ l) h = rw (steps-all n l (omega arith)) (both (fits p) (allFit l) (p .to) (besideStart p) (flat l))
+steps-all (suc n) (p ∷ l) h = rw (steps-all n l (omega arith))
+    (both (fits p) (allFit l) (p .to) (besideStart p) (flat l))
 
-not-early : (f : Bool) (t : Told (List ℕ)) (x y : ℕ) → (t ≡ refused 6 → ⊥) → cond f (andThen t (λ (k : List ℕ). value (x ∷ (y ∷ k)))) (refused 4) ≡ refused 6 → ⊥
+not-early : (f : Bool) (t : Told (List ℕ)) (x y : ℕ) → (t ≡ refused 6 → ⊥) → cond f
+    (andThen t (λ (k : List ℕ). value (x ∷ (y ∷ k)))) (refused 4) ≡ refused 6 → ⊥
 not-early true (value l) x y g e = let z : _≡_ {A = ℕ} 0 1 = cc in omega arith
 not-early true nothing x y g e = let z : _≡_ {A = ℕ} 0 1 = cc in omega arith
 not-early true (refused n) x y g e = g e

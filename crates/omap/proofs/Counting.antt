@@ -21,7 +21,8 @@ module _ (present : Bool) (s : List ℕ) (a b i : ℕ) where
   counting-first e = record { few = omega arith; number = omega (arith, ap length e); fit = ap allFit e }
 
   module _ (count : ℕ) (w : Counting present s a b i count) where
-    pub counting-last : left present s a b i ≡ [] → (allFit (windowPieces present s a b) ≡ true) × (count ≡ length (windowPieces present s a b))
+    pub counting-last : left present s a b i ≡ []
+        → (allFit (windowPieces present s a b) ≡ true) × (count ≡ length (windowPieces present s a b))
     unfolding allFit
     counting-last e = (w .fit ∙ ap allFit e, omega (arith, w .number, ap length e))
 

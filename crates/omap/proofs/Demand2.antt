@@ -1,5 +1,7 @@
--- Demand 2, over what a caller sees: where the whole-window call on a table is not refused and tells n pieces, the first n entries of
--- its output, written out in order, are the values that the single lookup gives for the addresses of the window, holes left out.
+-- Demand 2, over what a caller sees: where the whole-window call on a table is not refused and tells n pieces, the
+-- first n entries of
+-- its output, written out in order, are the values that the single lookup gives for the addresses of the window, holes
+-- left out.
 -- Assumes nothing.
 use mathlib.Core.Path.{_≡_, refl, sym, ap, _∙_}
 use Prim.Native.Nat.{ℕ, zero, suc, _+_, _-_, _/_, _≤_, _<_}
@@ -17,7 +19,8 @@ use Rattle.lent.proofs.Logic.{and-left, and-right}
 use Rattle.omap.specs.Records.{records, single}
 use Rattle.omap.specs.Lookup.{lookupSpec, valueOf, lookedUp}
 use Rattle.omap.specs.Window.{Piece, pieces, windowPieces}
-use Rattle.omap.specs.Output.{besideStart, fits, allFit, sumFault, windowFault, flat, outAfter, Window, counted, refusedFor, unlessFault, roomFor, windowSpec, windowOut}
+use Rattle.omap.specs.Output.{besideStart, fits, allFit, sumFault, windowFault, flat, outAfter, Window, counted}
+use Rattle.omap.specs.Output.{refusedFor, unlessFault, roomFor, windowSpec, windowOut}
 use Rattle.omap.specs.Expand.{upFrom, range, mapMaybe, expand, expandEntries}
 use Rattle.omap.proofs.Pieces.{fits-target, first-fits, others-fit}
 use Rattle.omap.proofs.Expansion.{window-expansion}
@@ -35,7 +38,8 @@ unfoldable small : List ℕ → Bool
 small [] = true
 small (x ∷ l) = leb x 4294967295 && small l
 
-small-run : (t : ℕ) (l : List ℕ) → small l ≡ true → (x n : ℕ) → x + n ≤ t → ((y : ℕ) → y < t → y ≤ 4294967295) → small (upFrom x n ++ l) ≡ true
+small-run : (t : ℕ) (l : List ℕ) → small l ≡ true → (x n : ℕ) → x + n ≤ t → ((y : ℕ) → y < t → y ≤ 4294967295) → small
+    (upFrom x n ++ l) ≡ true
 unfolding upFrom small
 small-run t l s x zero h k = s
 small-run t l s x (suc n) h k = rw (le-leb x 4294967295 (k x (omega arith))) (small-run t l s (suc x) n (omega arith) k)
@@ -50,10 +54,14 @@ small-pieces (p ∷ l) f =
 fitted-value : (o : Option ℕ) (l : List ℕ) → small (put o l) ≡ true → (valueOf (fitted o) ≡ o) × (small l ≡ true)
 unfolding put small
 fitted-value none l s = (refl, s)
-fitted-value (some t) l s =
-    (rw (le-leb t 4294967295 (leb-true t 4294967295 (and-left (leb t 4294967295) (small l) s))), and-right (leb t 4294967295) (small l) s)
+fitted-value (some t) l s = (
+  rw (le-leb t 4294967295 (leb-true t 4294967295 (and-left (leb t 4294967295) (small l) s))),
+  and-right
+      (leb t 4294967295) (small l) s,
+)
 
-told-values : (f : ℕ → Option ℕ) (l : List ℕ) → small (mapMaybe f l) ≡ true → mapMaybe f l ≡ mapMaybe (λ (x : ℕ). valueOf (fitted (f x))) l
+told-values : (f : ℕ → Option ℕ) (l : List ℕ) → small (mapMaybe f l) ≡ true → mapMaybe f l ≡ mapMaybe
+    (λ (x : ℕ). valueOf (fitted (f x))) l
 unfolding mapMaybe
 told-values f [] s = refl
 told-values f (x ∷ l) s =
@@ -61,11 +69,13 @@ told-values f (x ∷ l) s =
     rw (k .0) (ap (put (f x)) (told-values f l (k .1)))
 
 -- ---- a call that tells a number was not refused
-told : (f g : Option ℕ) (m n room : ℕ) → unlessFault (firstOf f g) (cond (leb m room) (counted m) (refusedFor 5 m)) ≡ counted n
+told : (f g : Option ℕ) (m n room : ℕ) → unlessFault (firstOf f g)
+    (cond (leb m room) (counted m) (refusedFor 5 m)) ≡ counted n
     → (f ≡ none) × ((g ≡ none) × (m ≡ n))
 told none none m n room e = go (leb m room) e
   where
-    go : (t : Bool) → cond t (counted m) (refusedFor 5 m) ≡ counted n → (_≡_ {A = Option ℕ} none none) × ((_≡_ {A = Option ℕ} none none) × (m ≡ n))
+    go : (t : Bool) → cond t (counted m) (refusedFor 5 m) ≡ counted n
+        → (_≡_ {A = Option ℕ} none none) × ((_≡_ {A = Option ℕ} none none) × (m ≡ n))
     go true e = (refl, (refl, (cc)))
     go false e = ((cc), ((cc), (cc)))
 told none (some k) m n room e = ((cc), ((cc), (cc)))
@@ -84,21 +94,26 @@ module _ (s : List ℕ) (a b : ℕ) (out : List ℕ) (n : ℕ) (e : windowSpec t
   answer : (omapFault s ≡ none) × ((allFit (pieces a b (records s)) ≡ true) × (length (pieces a b (records s)) ≡ n))
   unfolding windowSpec windowFault sumFault roomFor
   answer =
-      let q = told (omapFault s) (cond (allFit (pieces a b (records s))) none (some 4)) (length (pieces a b (records s))) n (length out / 2) e in
+      let q = told (omapFault s) (cond (allFit (pieces a b (records s))) none (some 4))
+      (length (pieces a b (records s))) n (length out / 2) e in
       (q .0, (fit-all (allFit (pieces a b (records s))) (q .1 .0), q .1 .1))
 
   written : windowOut true s a b out ≡ writtenOver (flat (pieces a b (records s))) out
   unfolding windowOut
   written = ap (λ (w : Window). outAfter w (flat (pieces a b (records s))) out) e
 
-  told-lookups : mapMaybe (λ (x : ℕ). valueOf (fitted (single (records s) x))) (range a b) ≡ mapMaybe (lookedUp true s) (range a b)
+  told-lookups : mapMaybe (λ (x : ℕ). valueOf (fitted (single (records s) x))) (range a b) ≡ mapMaybe (lookedUp true s)
+      (range a b)
   unfolding lookupSpec
   told-lookups = unrefused (omapFault s) (single (records s)) (range a b) (answer .0)
 
   pub demand-2 : b ≤ 4294967295 → expandEntries n (windowOut true s a b out) ≡ mapMaybe (lookedUp true s) (range a b)
   demand-2 w =
-      let by-pieces : expand (pieces a b (records s)) ≡ mapMaybe (single (records s)) (range a b) = window-expansion s a b (answer .0) (omega arith) in
-      rw (written, ← (answer .1 .1)) (entries-pieces (pieces a b (records s)) (drop (length (flat (pieces a b (records s)))) out))
+      let by-pieces : expand (pieces a b (records s)) ≡ mapMaybe (single (records s))
+      (range a b) = window-expansion s a b (answer .0) (omega arith) in
+      rw (written, ← (answer .1 .1)) (entries-pieces (pieces a b (records s))
+      (drop (length (flat (pieces a b (records s)))) out))
       ∙ by-pieces
-      ∙ told-values (single (records s)) (range a b) (rw (← by-pieces) (small-pieces (pieces a b (records s)) (answer .1 .0)))
+      ∙ told-values (single (records s)) (range a b)
+      (rw (← by-pieces) (small-pieces (pieces a b (records s)) (answer .1 .0)))
       ∙ told-lookups

@@ -1,4 +1,5 @@
--- Each promise leaves one answer, and one output: any two results that it allows are equal. An answer can be read back from the
+-- Each promise leaves one answer, and one output: any two results that it allows are equal. An answer can be read back
+-- from the
 -- paper's own terms.
 -- Assumes nothing.
 use mathlib.Core.Path.{_≡_, refl, sym, _∙_}
@@ -12,7 +13,8 @@ use Rattle.lent.specs.declared.Refusal.the-variants.{Length, Count, Order}
 use Rattle.lent.proofs.Answers.{refusal, one-answer}
 use Rattle.omap.specs.Records.{Entry}
 use Rattle.omap.specs.Lookup.{toldRecorded, recordSpec, toldLooked, lookupSpec}
-use Rattle.omap.specs.Output.{toldCounted, countSpec, Window, counted, refusedAs, refusedFor, toldWindowed, windowSpec, windowOut}
+use Rattle.omap.specs.Output.{toldCounted, countSpec, Window, counted, refusedAs, refusedFor, toldWindowed}
+use Rattle.omap.specs.Output.{windowSpec, windowOut}
 use Rattle.omap.specs.Step.{toldStarted, startSpec, Stepped, piece, done, refusedAt, toldStep, stepSpec}
 use Rattle.omap.specs.declared.Recorded.{Recorded}
 use Rattle.omap.specs.declared.Recorded.the-variants as recorded
@@ -40,7 +42,8 @@ recorded-back (recorded.Refused Length) = refl
 recorded-back (recorded.Refused Count) = refl
 recorded-back (recorded.Refused Order) = refl
 
-pub one-record : (s : List ℕ) (i : ℕ) (r q : Recorded) → toldRecorded r ≡ recordSpec s i → toldRecorded q ≡ recordSpec s i → r ≡ q
+pub one-record : (s : List ℕ) (i : ℕ) (r q : Recorded) → toldRecorded r ≡ recordSpec s i
+    → toldRecorded q ≡ recordSpec s i → r ≡ q
 one-record s i = one-answer toldRecorded recordedBack recorded-back (recordSpec s i)
 
 abbrev lookedBack : Told ℕ → Looked
@@ -56,7 +59,8 @@ looked-back (looked.Refused Count) = refl
 looked-back (looked.Refused Order) = refl
 looked-back looked.TooLarge = refl
 
-pub one-lookup : (present : Bool) (s : List ℕ) (a : ℕ) (r q : Looked) → toldLooked r ≡ lookupSpec present s a → toldLooked q ≡ lookupSpec present s a → r ≡ q
+pub one-lookup : (present : Bool) (s : List ℕ) (a : ℕ) (r q : Looked) → toldLooked r ≡ lookupSpec present s a
+    → toldLooked q ≡ lookupSpec present s a → r ≡ q
 one-lookup present s a = one-answer toldLooked lookedBack looked-back (lookupSpec present s a)
 
 abbrev countedBack : Told ℕ → Counted
@@ -71,7 +75,8 @@ counted-back (count.Refused Count) = refl
 counted-back (count.Refused Order) = refl
 counted-back count.TooLarge = refl
 
-pub one-count : (present : Bool) (s : List ℕ) (a b : ℕ) (r q : Counted) → toldCounted r ≡ countSpec present s a b → toldCounted q ≡ countSpec present s a b → r ≡ q
+pub one-count : (present : Bool) (s : List ℕ) (a b : ℕ) (r q : Counted) → toldCounted r ≡ countSpec present s a b
+    → toldCounted q ≡ countSpec present s a b → r ≡ q
 one-count present s a b = one-answer toldCounted countedBack counted-back (countSpec present s a b)
 
 abbrev windowedBack : Window → Windowed
@@ -108,13 +113,15 @@ started-back (started.Refused Length) = refl
 started-back (started.Refused Count) = refl
 started-back (started.Refused Order) = refl
 
-pub one-start : (present : Bool) (s : List ℕ) (a b : ℕ) (r q : Started) → toldStarted r ≡ startSpec present s a b → toldStarted q ≡ startSpec present s a b → r ≡ q
+pub one-start : (present : Bool) (s : List ℕ) (a b : ℕ) (r q : Started) → toldStarted r ≡ startSpec present s a b
+    → toldStarted q ≡ startSpec present s a b → r ≡ q
 one-start present s a b = one-answer toldStarted startedBack started-back (startSpec present s a b)
 
 abbrev steppedBack : Stepped → Step
 steppedBack (piece start end c) = step.Piece c start end
 steppedBack (done c) = step.Done c
-steppedBack (refusedAt n c) = cond (eqb n 4) (step.TooLarge c) (cond (eqb n 6) (step.Early c) (step.Refused c (refusal n)))
+steppedBack (refusedAt n c) = cond (eqb n 4) (step.TooLarge c)
+    (cond (eqb n 6) (step.Early c) (step.Refused c (refusal n)))
 
 stepped-back : (r : Step) → steppedBack (toldStep r) ≡ r
 stepped-back (step.Piece c start end) = refl
@@ -125,5 +132,6 @@ stepped-back (step.Refused c Order) = refl
 stepped-back (step.Early c) = refl
 stepped-back (step.TooLarge c) = refl
 
-pub one-step : (present : Bool) (s : List ℕ) (c : Cursor) (r q : Step) → toldStep r ≡ stepSpec present s c → toldStep q ≡ stepSpec present s c → r ≡ q
+pub one-step : (present : Bool) (s : List ℕ) (c : Cursor) (r q : Step) → toldStep r ≡ stepSpec present s c
+    → toldStep q ≡ stepSpec present s c → r ≡ q
 one-step present s c = one-answer toldStep steppedBack stepped-back (stepSpec present s c)

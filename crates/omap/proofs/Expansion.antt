@@ -1,4 +1,5 @@
--- Demand 2: the pieces of a window, written out, are the single translations of its addresses, in order, holes left out.
+-- Demand 2: the pieces of a window, written out, are the single translations of its addresses, in order, holes left
+-- out.
 -- Assumes nothing.
 use mathlib.Core.Path.{_≡_, refl, sym, ap, _∙_}
 use mathlib.Core.Logic.{_⊎_, inl, inr, ⊎-elim}
@@ -54,17 +55,25 @@ module _ (f : ℕ → Option ℕ) where
   map-none : (n a : ℕ) → ((d : ℕ) → a ≤ d → d < a + n → f d ≡ none) → mapMaybe f (upFrom a n) ≡ []
   unfolding mapMaybe upFrom put
   map-none zero a h = refl
-  map-none (suc n) a h = rw (h a (omega arith) (omega arith)) (map-none n (suc a) (λ d l m. h d (omega arith) (omega arith)))
+  map-none (suc n) a h = rw (h a (omega arith) (omega arith))
+      (map-none n (suc a) (λ d l m. h d (omega arith) (omega arith)))
 
   -- f moves each number by the same distance
-  map-moved : (n a s t : ℕ) → s ≤ a → ((d : ℕ) → a ≤ d → d < a + n → f d ≡ some (d - s + t)) → mapMaybe f (upFrom a n) ≡ upFrom (a - s + t) n
+  map-moved : (n a s t : ℕ) → s ≤ a → ((d : ℕ) → a ≤ d → d < a + n → f d ≡ some (d - s + t)) → mapMaybe f
+      (upFrom a n) ≡ upFrom (a - s + t) n
   unfolding mapMaybe upFrom put
   map-moved zero a s t l h = refl
   map-moved (suc n) a s t l h =
       let e : suc a - s + t ≡ suc (a - s + t) = omega arith in
-      rw (h a (omega arith) (omega arith), map-moved n (suc a) s t (omega arith) (λ d p q. h d (omega arith) (omega arith)), e)
+      rw (
+        h a (omega arith) (omega arith),
+        map-moved n (suc a) s t (omega arith)
+            (λ d p q. h d (omega arith) (omega arith)),
+        e,
+      )
 
-  map-same : (g : ℕ → Option ℕ) (n a : ℕ) → ((d : ℕ) → a ≤ d → d < a + n → f d ≡ g d) → mapMaybe f (upFrom a n) ≡ mapMaybe g (upFrom a n)
+  map-same : (g : ℕ → Option ℕ) (n a : ℕ) → ((d : ℕ) → a ≤ d → d < a + n → f d ≡ g d) → mapMaybe f
+      (upFrom a n) ≡ mapMaybe g (upFrom a n)
   unfolding mapMaybe upFrom
   map-same g zero a h = refl
   map-same g (suc n) a h =
@@ -119,7 +128,8 @@ module _ (x : Entry) (l : List Entry) (r : risingAfter (x .source) (sources l) �
   unfolding moved
   single-zero d h m z = single-here d h m ∙ rw (eq-eqb (x .target) 0 z)
 
-  pub single-moved : (d : ℕ) → x .source ≤ d → d < nextOf l → (x .target ≡ 0 → ⊥) → single (x ∷ l) d ≡ some (d - x .source + x .target)
+  pub single-moved : (d : ℕ) → x .source ≤ d → d < nextOf l → (x .target ≡ 0 → ⊥) → single (x ∷ l) d ≡ some
+      (d - x .source + x .target)
   unfolding moved
   single-moved d h m z = single-here d h m ∙ rw (ne-eqb (x .target) 0 z)
 
@@ -149,18 +159,22 @@ no-piece a b x l r w c d h m =
 pub one-piece : (a b : ℕ) (x : Entry) (l : List Entry) → risingAfter (x .source) (sources l) ≡ true → b ≤ 4294967296
     → max a (x .source) < min b (nextOf l) → (x .target ≡ 0 → ⊥)
     → mapMaybe (single (x ∷ l)) (range a b)
-    ≡ upFrom (max a (x .source) - x .source + x .target) (min b (nextOf l) - max a (x .source)) ++ mapMaybe (single l) (range a b)
+    ≡ upFrom (max a (x .source) - x .source + x .target) (min b (nextOf l) - max a (x .source)) ++ mapMaybe (single l)
+    (range a b)
 one-piece a b x l r w h z =
     let f = single (x ∷ l) in
     let g = single l in
     let lo = max a (x .source) in
     let hi = min b (nextOf l) in
     let low : mapMaybe f (range a lo) ≡ [] = map-none f (lo - a) a (λ d p q. single-below x l r d (omega arith)) in
-    let mid : mapMaybe f (range lo hi) ≡ upFrom (lo - x .source + x .target) (hi - lo) = map-moved f (hi - lo) lo (x .source) (x .target) (omega arith) (λ d p q. single-moved x l r d (omega arith) (omega arith) z) in
-    let top : mapMaybe f (range hi b) ≡ mapMaybe g (range hi b) = map-same f g (b - hi) hi (λ d p q. after-same x l d (omega arith) (omega arith)) in
+    let mid : mapMaybe f (range lo hi) ≡ upFrom (lo - x .source + x .target) (hi - lo) = map-moved f (hi - lo) lo
+    (x .source) (x .target) (omega arith) (λ d p q. single-moved x l r d (omega arith) (omega arith) z) in
+    let top : mapMaybe f (range hi b) ≡ mapMaybe g (range hi b) = map-same f g (b - hi) hi
+    (λ d p q. after-same x l d (omega arith) (omega arith)) in
     let rest : mapMaybe g (range a hi) ≡ [] = map-none g (hi - a) a (λ d p q. single-rest x l r d (omega arith)) in
     let whole : mapMaybe g (range a b) ≡ mapMaybe g (range hi b)
-    = ap (mapMaybe g) (range-split a hi b (omega arith) (omega arith)) ∙ map-append g (range a hi) (range hi b) ∙ ap (λ (k : List ℕ). k ++ mapMaybe g (range hi b)) rest in
+    = ap (mapMaybe g) (range-split a hi b (omega arith) (omega arith)) ∙ map-append g (range a hi) (range hi b)
+    ∙ ap (λ (k : List ℕ). k ++ mapMaybe g (range hi b)) rest in
     let one : range a b ≡ range a lo ++ range lo b = range-split a lo b (omega arith) (omega arith) in
     let two : range lo b ≡ range lo hi ++ range hi b = range-split lo hi b (omega arith) (omega arith) in
     ap (mapMaybe f) (one ∙ ap (λ (k : List ℕ). range a lo ++ k) two)
@@ -169,12 +183,15 @@ one-piece a b x l r w h z =
     ∙ map-append f (range lo hi) (range hi b)
     ∙ rw (mid, top, whole)
 
-pub expansion : (a b : ℕ) (l : List Entry) → rising (sources l) ≡ true → b ≤ 4294967296 → expand (pieces a b l) ≡ mapMaybe (single l) (range a b)
+pub expansion : (a b : ℕ) (l : List Entry) → rising (sources l) ≡ true → b ≤ 4294967296 → expand
+    (pieces a b l) ≡ mapMaybe (single l) (range a b)
 unfolding rising single moved lastAt pieces expand put
 expansion a b [] r w = sym (map-none (single []) (b - a) a (λ d p q. refl))
 expansion a b (x ∷ l) r w =
-    let ih : expand (pieces a b l) ≡ mapMaybe (single l) (range a b) = expansion a b l (after-rising (x .source) (sources l) r) w in
-    let none-here : (min b (nextOf l) ≤ max a (x .source)) ⊎ (x .target ≡ 0) → mapMaybe (single (x ∷ l)) (range a b) ≡ mapMaybe (single l) (range a b)
+    let ih : expand (pieces a b l) ≡ mapMaybe (single l) (range a b) = expansion a b l
+    (after-rising (x .source) (sources l) r) w in
+    let none-here : (min b (nextOf l) ≤ max a (x .source)) ⊎ (x .target ≡ 0) → mapMaybe (single (x ∷ l))
+    (range a b) ≡ mapMaybe (single l) (range a b)
     = λ c. map-same (single (x ∷ l)) (single l) (b - a) a (λ d p q. no-piece a b x l r w c d p (omega arith)) in
     ⊎-elim
     (λ (h : max a (x .source) < min b (nextOf l)).
@@ -182,7 +199,8 @@ expansion a b (x ∷ l) r w =
     (λ (z : x .target ≡ 0). rw (piece-zero a b x (nextOf l) z) (ih ∙ sym (none-here (inr z))))
     (λ (z : 0 < x .target).
     rw (piece-some a b x (nextOf l) h (λ e. omega arith))
-    (ap (λ (k : List ℕ). upFrom (max a (x .source) - x .source + x .target) (min b (nextOf l) - max a (x .source)) ++ k) ih
+    (ap (λ (k : List ℕ). upFrom (max a (x .source) - x .source + x .target)
+    (min b (nextOf l) - max a (x .source)) ++ k) ih
     ∙ sym (one-piece a b x l r w h (λ e. omega arith))))
     (eq-zero-or-pos (x .target)))
     (λ (h : min b (nextOf l) ≤ max a (x .source)). rw (piece-empty a b x (nextOf l) h) (ih ∙ sym (none-here (inl h))))
@@ -200,7 +218,8 @@ length-expand [] = refl
 length-expand (p ∷ l) =
     length-append (upFrom (p .to) (p .size)) (expand l) ∙ omega (arith, length-up (p .to) (p .size), length-expand l)
 
-pub lengths : (a b : ℕ) (l : List Entry) → rising (sources l) ≡ true → b ≤ 4294967296 → total (pieces a b l) ≡ length (mapMaybe (single l) (range a b))
+pub lengths : (a b : ℕ) (l : List Entry) → rising (sources l) ≡ true → b ≤ 4294967296 → total (pieces a b l) ≡ length
+    (mapMaybe (single l) (range a b))
 lengths a b l r w = sym (length-expand (pieces a b l)) ∙ ap length (expansion a b l r w)
 
 -- demand 2 of a table that is not refused, in a window of 32 bits

@@ -1,4 +1,5 @@
--- The window's loop that writes: what is left to write, written onto the output as it is, gives the output as it will be.
+-- The window's loop that writes: what is left to write, written onto the output as it is, gives the output as it will
+-- be.
 -- Assumes nothing.
 use mathlib.Core.Path.{_≡_, refl, ap, _∙_}
 use Prim.Native.Nat.{ℕ, _+_, _≤_}
@@ -24,8 +25,10 @@ pub record Filling (present : Bool) (s : List ℕ) (a b : ℕ) (out₀ out : Lis
 pub start : (vs out : List ℕ) → length vs ≤ length out → sets out 0 vs ≡ writtenOver vs out
 start vs out h = sets-eq vs out 0 (omega arith) ∙ ap (λ (k : ℕ). vs ++ drop k out) (zero-add (length vs))
 
-pub filling-first : (present : Bool) (s : List ℕ) (a b : ℕ) (out : List ℕ) (i : ℕ) → windowPieces present s a b ≡ left present s a b i
-    → allFit (windowPieces present s a b) ≡ true → length (flat (windowPieces present s a b)) ≤ length out → Filling present s a b out out i 0
+pub filling-first : (present : Bool) (s : List ℕ) (a b : ℕ) (out : List ℕ) (i : ℕ)
+    → windowPieces present s a b ≡ left present s a b i
+    → allFit (windowPieces present s a b) ≡ true → length (flat (windowPieces present s a b)) ≤ length out
+    → Filling present s a b out out i 0
 filling-first present s a b out i e f h = record {
   kept = refl;
   fit = rw e at f;
@@ -33,7 +36,8 @@ filling-first present s a b out i e f h = record {
   more = rw (← e) (start (flat (windowPieces present s a b)) out h);
 }
 
-module _ (present : Bool) (s : List ℕ) (a b : ℕ) (out₀ out : List ℕ) (i k : ℕ) (w : Filling present s a b out₀ out i k) where
+module _ (present : Bool) (s : List ℕ) (a b : ℕ) (out₀ out : List ℕ) (i k : ℕ)
+    (w : Filling present s a b out₀ out i k) where
   pub filling-last : left present s a b i ≡ [] → out ≡ writtenOver (flat (windowPieces present s a b)) out₀
   unfolding flat
   filling-last e = rw e at (w .more)

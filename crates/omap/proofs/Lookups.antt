@@ -67,8 +67,20 @@ module _ (s : List ℕ) (a : ℕ) where
       module _ (z : e .target ≡ 0 → ⊥) where
         pub look-at : a - e .source + e .target ≤ 4294967295 → value (a - e .source + e .target) ≡ lookupSpec true s a
         unfolding moved
-        look-at h = rw (look-good good, found s a k pos u, ne-eqb (e .target) 0 z, le-leb (a - e .source + e .target) 4294967295 h)
+        look-at h = rw (
+          look-good good,
+          found s a k pos u,
+          ne-eqb (e .target) 0 z,
+          le-leb
+              (a - e .source + e .target) 4294967295 h,
+        )
 
         pub look-large : 4294967295 < a - e .source + e .target → refused 4 ≡ lookupSpec true s a
         unfolding moved
-        look-large h = rw (look-good good, found s a k pos u, ne-eqb (e .target) 0 z, lt-leb (a - e .source + e .target) 4294967295 h)
+        look-large h = rw (
+          look-good good,
+          found s a k pos u,
+          ne-eqb (e .target) 0 z,
+          lt-leb
+              (a - e .source + e .target) 4294967295 h,
+        )

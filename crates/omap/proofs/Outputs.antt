@@ -11,7 +11,8 @@ use borrow.Author.Tests.{le-leb, lt-leb}
 use Rattle.lent.specs.Order.{omapFault}
 use Rattle.lent.specs.Paper.{Told, value, refused, firstOf, unless}
 use Rattle.omap.specs.Window.{Piece, windowPieces}
-use Rattle.omap.specs.Output.{allFit, sumFault, markedFault, windowFault, countSpec, flat, outAfter, Window, counted, refusedAs, refusedFor, unlessFault, roomFor, windowSpec, windowOut}
+use Rattle.omap.specs.Output.{allFit, sumFault, markedFault, windowFault, countSpec, flat, outAfter, Window}
+use Rattle.omap.specs.Output.{counted, refusedAs, refusedFor, unlessFault, roomFor, windowSpec, windowOut}
 use Rattle.omap.specs.Walk.{InOrder}
 use Rattle.omap.proofs.Last.{in-order}
 
@@ -75,8 +76,15 @@ module _ (present : Bool) (s : List ℕ) (a b n : ℕ) where
   pub was-counted : value n ≡ countSpec present s a b → Counts present s a b n
   unfolding countSpec windowFault
   was-counted e =
-      let g = faultless (markedFault present s) (sumFault (windowPieces present s a b)) (length (windowPieces present s a b)) n e in
-      record { order = checked-order present s (g .0); fit = fits-all (windowPieces present s a b) (g .1 .0); number = g .1 .1; faultless = rw (← (g .0), ← (g .1 .0)) }
+      let g = faultless (markedFault present s) (sumFault (windowPieces present s a b))
+      (length (windowPieces present s a b)) n e in
+      record {
+        order = checked-order present s (g .0);
+        fit = fits-all (windowPieces present s a b)
+            (g .1 .0);
+        number = g .1 .1;
+        faultless = rw (← (g .0), ← (g .1 .0));
+      }
 
   pub was-refused : refused n ≡ countSpec present s a b → some n ≡ windowFault present s a b
   unfolding countSpec

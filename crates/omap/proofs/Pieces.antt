@@ -45,7 +45,8 @@ module _ (a b : ℕ) (x : Entry) (e : ℕ) where
   unfolding pieceOf
   piece-zero h = rw (eq-eqb (x .target) 0 h, and-false (ltb (max a (x .source)) (min b e)))
 
-  pub piece-some : max a (x .source) < min b e → (x .target ≡ 0 → ⊥) → pieceOf a b x e ≡ some (between x (max a (x .source)) (min b e))
+  pub piece-some : max a (x .source) < min b e → (x .target ≡ 0 → ⊥) → pieceOf a b x e ≡ some
+      (between x (max a (x .source)) (min b e))
   unfolding pieceOf
   piece-some h z = rw (lt-ltb (max a (x .source)) (min b e) h, ne-eqb (x .target) 0 z)
 
@@ -71,11 +72,13 @@ unfolding pieces
 none-left s a b i h = rw (listed-end (entryAt s) i (length s / 8) h)
 
 -- records that begin at or past b have no piece
-pub past-all : (s : List ℕ) (a b i n : ℕ) → ((j : ℕ) → i ≤ j → j < i + n → b ≤ src s j) → pieces a b (listed (entryAt s) i n) ≡ []
+pub past-all : (s : List ℕ) (a b i n : ℕ) → ((j : ℕ) → i ≤ j → j < i + n → b ≤ src s j) → pieces a b
+    (listed (entryAt s) i n) ≡ []
 unfolding pieces listed put
 past-all s a b i zero h = refl
 past-all s a b i (suc n) h =
-    rw (piece-empty a b (entryAt s i) (nextOf (listed (entryAt s) (suc i) n)) (omega (arith, h i (omega arith) (omega arith))))
+    rw (piece-empty a b (entryAt s i) (nextOf (listed (entryAt s) (suc i) n))
+    (omega (arith, h i (omega arith) (omega arith))))
     (past-all s a b (suc i) n (λ j m l. h j (omega arith) (omega arith)))
 
 -- whether pieces fit, one at a time; what a piece that fits shows is below 2 ^ 32
@@ -125,7 +128,8 @@ piece-is a b x e p h =
     (λ (z : 0 < x .target).
     ⊎-elim
     (λ (l : max a (x .source) < min b e).
-    let g : _≡_ {A = Piece} p (between x (max a (x .source)) (min b e)) = cc (piece-some a b x e l (λ q. omega arith)) in
+    let g : _≡_ {A = Piece} p (between x (max a (x .source)) (min b e)) = cc
+    (piece-some a b x e l (λ q. omega arith)) in
     record { mapped = z; some-of-it = l; is = g })
     (λ (l : min b e ≤ max a (x .source)). let c : _≡_ {A = ℕ} 0 1 = cc (piece-empty a b x e l) in absurd (omega arith))
     (lt-or-le (max a (x .source)) (min b e)))

@@ -89,7 +89,8 @@ drop-listed f (suc k) i (suc n) =
 
 rest-is : (s : List ℕ) (k : ℕ) → rest s k ≡ drop k (records s)
 unfolding records
-rest-is s k = sym (drop-listed (entryAt s) k 0 (length s / 8) ∙ ap (λ (i : ℕ). listed (entryAt s) i (length s / 8 - k)) (zero-add k))
+rest-is s k = sym (drop-listed (entryAt s) k 0 (length s / 8) ∙ ap (λ (i : ℕ). listed (entryAt s) i (length s / 8 - k))
+    (zero-add k))
 
 no-shape : (f g : Option ℕ) → firstOf f g ≡ none → none ≡ f
 no-shape none g e = refl
@@ -103,9 +104,11 @@ module _ (s : List ℕ) (a b : ℕ) (good : omapFault s ≡ none) (w : b ≤ 429
   start-record : (all l : List Entry) (o : Option Entry) (p : ℕ) → rest s p ≡ l → Begins a b all (orHere o nowhere) l
       → run true s n (onto a b p o) ≡ steps n (pieces a b all)
   start-record all l none p at st =
-      run-yields true s shaped n (onto a b p none) l at (record { small = w; begun = λ q. st .below; ahead = λ q. st .ahead }) ∙ ap (steps n) (sym (st .same))
+      run-yields true s shaped n (onto a b p none) l at
+      (record { small = w; begun = λ q. st .below; ahead = λ q. st .ahead }) ∙ ap (steps n) (sym (st .same))
   start-record all l (some x) p at st =
-      run-yields true s shaped n (onto a b p (some x)) l at (record { small = w; begun = λ q. st .below; ahead = λ q. st .ahead }) ∙ ap (steps n) (sym (st .same))
+      run-yields true s shaped n (onto a b p (some x)) l at
+      (record { small = w; begun = λ q. st .below; ahead = λ q. st .ahead }) ∙ ap (steps n) (sym (st .same))
 
   start-yields : run true s n (startOn (records s) a b) ≡ steps n (pieces a b (records s))
   unfolding startOn pieces put
@@ -113,15 +116,19 @@ module _ (s : List ℕ) (a b : ℕ) (good : omapFault s ≡ none) (w : b ≤ 429
       ⊎-elim
       (λ (h : a < b).
       let r : rising (sources (records s)) ≡ true = ap rising (sources-keys s) ∙ in-order s good in
-      let z : pieces a b (nowhere ∷ records s) ≡ pieces a b (records s) = rw (piece-zero a b nowhere (nextOf (records s)) refl) in
+      let z : pieces a b (nowhere ∷ records s) ≡ pieces a b
+      (records s) = rw (piece-zero a b nowhere (nextOf (records s)) refl) in
       rw (lt-leb b a h)
-      (start-record (nowhere ∷ records s) (drop (countUpTo a (records s)) (records s)) (holderOf a (records s)) (countUpTo a (records s)) (rest-is s (countUpTo a (records s)))
+      (start-record (nowhere ∷ records s) (drop (countUpTo a (records s)) (records s)) (holderOf a (records s))
+      (countUpTo a (records s)) (rest-is s (countUpTo a (records s)))
       (begins a b nowhere (records s) r (omega arith)) ∙ ap (steps n) z))
       (λ (h : b ≤ a).
       let c : Cursor = record { address = 0; end = 0; source = 0; target = 0; place = length (records s) } in
       rw (le-leb b a h)
-      (run-yields true s shaped n c (rest s (c .place)) refl (record { small = omega arith; begun = λ q. omega arith; ahead = λ (q : 0 < 0). absurd (omega arith) })
-      ∙ ap (steps n) (empty-window 0 0 (omega arith) (on c ∷ rest s (c .place)) ∙ sym (empty-window a b h (records s)))))
+      (run-yields true s shaped n c (rest s (c .place)) refl
+      (record { small = omega arith; begun = λ q. omega arith; ahead = λ (q : 0 < 0). absurd (omega arith) })
+      ∙ ap (steps n) (empty-window 0 0 (omega arith) (on c ∷ rest s (c .place)) ∙ sym
+      (empty-window a b h (records s)))))
       (lt-or-le a b)
 
 is-good : (f : Option ℕ) (k c : Cursor) → unless f (value k) ≡ value c → (f ≡ none) × (k ≡ c)
@@ -133,12 +140,14 @@ module _ (s : List ℕ) (a b : ℕ) (c : Cursor) where
   unfolding startSpec
   started e = is-good (omapFault s) (startOn (records s) a b) c e
 
-  started-none : startSpec false s a b ≡ value c → record { address = a; end = b; source = a; target = a; place = 0 } ≡ c
+  started-none : startSpec false s a b ≡ value c
+      → record { address = a; end = b; source = a; target = a; place = 0 } ≡ c
   unfolding startSpec
   started-none e = cc
 
 -- n steps of a started cursor
-yields : (present : Bool) (s : List ℕ) (a b : ℕ) (c : Cursor) → startSpec present s a b ≡ value c → b ≤ 4294967295 → (n : ℕ)
+yields : (present : Bool) (s : List ℕ) (a b : ℕ) (c : Cursor) → startSpec present s a b ≡ value c → b ≤ 4294967295
+    → (n : ℕ)
     → run present s n c ≡ steps n (windowPieces present s a b)
 unfolding shapeFault listed risingAfter
 yields true s a b c e w n =
@@ -146,22 +155,27 @@ yields true s a b c e w n =
     ap (run true s n) (sym (g .1)) ∙ start-yields s a b (g .0) w n
 yields false s a b c e w n =
     ap (run false s n) (sym (started-none s a b c e))
-    ∙ run-yields false s refl n (record { address = a; end = b; source = a; target = a; place = 0 }) [] refl (record { small = w; begun = λ q. omega arith; ahead = λ q. refl })
+    ∙ run-yields false s refl n (record { address = a; end = b; source = a; target = a; place = 0 }) [] refl
+    (record { small = w; begun = λ q. omega arith; ahead = λ q. refl })
 
--- A started cursor, stepped to its end, yields the pieces of the whole-window call as pairs, in order, and then it is done; or it is
+-- A started cursor, stepped to its end, yields the pieces of the whole-window call as pairs, in order, and then it is
+-- done; or it is
 -- refused 4 where that call is. One step more than there are pieces is enough.
 pub stepping : (present : Bool) (s : List ℕ) (a b : ℕ) (c : Cursor) → startSpec present s a b ≡ value c → b ≤ 4294967295
     → (n : ℕ) → length (windowPieces present s a b) < n → run present s n c ≡ entries (windowPieces present s a b)
 stepping present s a b c e w n h = yields present s a b c e w n ∙ steps-all n (windowPieces present s a b) h
 
 -- the same where every piece fits: nothing is refused
-pub stepping-fits : (present : Bool) (s : List ℕ) (a b : ℕ) (c : Cursor) → startSpec present s a b ≡ value c → b ≤ 4294967295
+pub stepping-fits : (present : Bool) (s : List ℕ) (a b : ℕ) (c : Cursor) → startSpec present s a b ≡ value c
+    → b ≤ 4294967295
     → allFit (windowPieces present s a b) ≡ true
     → (n : ℕ) → length (windowPieces present s a b) < n → run present s n c ≡ value (flat (windowPieces present s a b))
 unfolding entries sumFault
 stepping-fits present s a b c e w f n h = stepping present s a b c e w n h ∙ rw f
 
 -- a started cursor never meets refusal 6
-pub never-early : (present : Bool) (s : List ℕ) (a b : ℕ) (c : Cursor) → startSpec present s a b ≡ value c → b ≤ 4294967295
+pub never-early : (present : Bool) (s : List ℕ) (a b : ℕ) (c : Cursor) → startSpec present s a b ≡ value c
+    → b ≤ 4294967295
     → (n : ℕ) → run present s n c ≡ refused 6 → ⊥
-never-early present s a b c e w n r = steps-early n (windowPieces present s a b) (sym (yields present s a b c e w n) ∙ r)
+never-early present s a b c e w n r = steps-early n (windowPieces present s a b)
+    (sym (yields present s a b c e w n) ∙ r)

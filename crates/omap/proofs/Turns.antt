@@ -52,8 +52,10 @@ module _ (x : Entry) (p : ℕ) (c : Cursor) where
     turn-early e = rw (counts, lt-leb (c .source) (c .address) e)
 
     module _ (e : c .source ≤ c .address) where
-      pub turn-piece : fits (t .part) ≡ true → (stop beside : ℕ) → stop ≡ min (x .source) (c .end) → beside ≡ besideStart (t .part)
-          → turned.Piece (record { address = stop; end = c .end; source = x .source; target = x .target; place = p }) (t .part .to) beside ≡ turnedBy t
+      pub turn-piece : fits (t .part) ≡ true → (stop beside : ℕ) → stop ≡ min (x .source) (c .end)
+          → beside ≡ besideStart (t .part)
+          → turned.Piece (record { address = stop; end = c .end; source = x .source; target = x .target; place = p })
+          (t .part .to) beside ≡ turnedBy t
       unfolding turnedBy
       turn-piece f stop beside m q = rw (counts, le-leb (c .source) (c .address) e, f, m, q)
 
@@ -62,7 +64,8 @@ module _ (x : Entry) (p : ℕ) (c : Cursor) where
       turn-large f = rw (counts, le-leb (c .source) (c .address) e, f)
 
 module _ (s : List ℕ) (c : Cursor) where
-  pub next-record : c .place < length s / 8 → nextTurn (rest s (c .place)) c ≡ turnWith (entryAt s (c .place)) (c .place + 1) c
+  pub next-record : c .place < length s / 8 → nextTurn (rest s (c .place)) c ≡ turnWith (entryAt s (c .place))
+      (c .place + 1) c
   next-record h = rw (listed-step (entryAt s) (c .place) (length s / 8) h)
 
   nothing-left : length s / 8 ≤ c .place → rest s (c .place) ≡ []
@@ -90,10 +93,12 @@ by-tests true true false c₀ k f e on = refl
 by-tests true false d c₀ k f e on = refl
 by-tests false b d c₀ k f e on = refl
 
-by-turn : (c₀ k : Cursor) (t : Turn) (l : List Turn) → firstPiece c₀ k (t ∷ l) ≡ onward c₀ (turnedBy t) (firstPiece c₀ (t .after) l)
+by-turn : (c₀ k : Cursor) (t : Turn) (l : List Turn) → firstPiece c₀ k (t ∷ l) ≡ onward c₀ (turnedBy t)
+    (firstPiece c₀ (t .after) l)
 unfolding firstPiece pieceOr turnedBy
 by-turn c₀ k t l =
-    by-tests (translated t) (leb (t .owner .source) (t .part .at)) (fits (t .part)) c₀ (t .after) (t .part .to) (besideStart (t .part))
+    by-tests (translated t) (leb (t .owner .source) (t .part .at)) (fits (t .part)) c₀ (t .after) (t .part .to)
+    (besideStart (t .part))
     (firstPiece c₀ (t .after) l)
 
 pub walk-done : (l : List Entry) (c₀ c : Cursor) → c .end ≤ c .address → walk c₀ l c ≡ done c
@@ -106,7 +111,8 @@ abbrev later : List Entry → Cursor → Cursor → Stepped
 later [] c₀ c = firstPiece c₀ (pulled (endOf c) (c .place) c) []
 later (x ∷ l) c₀ c = walk c₀ l (pulled x (c .place + 1) c)
 
-walk-turn : (l : List Entry) (c₀ c : Cursor) → c .address < c .end → walk c₀ l c ≡ onward c₀ (turnedBy (nextTurn l c)) (later l c₀ c)
+walk-turn : (l : List Entry) (c₀ c : Cursor) → c .address < c .end → walk c₀ l c ≡ onward c₀ (turnedBy (nextTurn l c))
+    (later l c₀ c)
 unfolding turns
 walk-turn [] c₀ c h = rw (lt-ltb (c .address) (c .end) h) (by-turn c₀ c (turnWith (endOf c) (c .place) c) [])
 walk-turn (x ∷ l) c₀ c h =
@@ -120,7 +126,8 @@ walk-ends l c₀ c h t e a f = walk-turn l c₀ c h ∙ rw (← e) (f (later l c
 
 -- a skip leaves the cursor that has pulled the record
 skip-cases : (a b d : Bool) (f t : ℕ) (k k′ : Cursor)
-    → turned.Skip k′ ≡ cond a (cond b (cond d (turned.Piece k f t) turned.TooLarge) turned.Early) (turned.Skip k) → k′ ≡ k
+    → turned.Skip k′ ≡ cond a (cond b (cond d (turned.Piece k f t) turned.TooLarge) turned.Early) (turned.Skip k)
+    → k′ ≡ k
 skip-cases true true true f t k k′ e = cc
 skip-cases true true false f t k k′ e = cc
 skip-cases true false d f t k k′ e = cc
@@ -129,7 +136,8 @@ skip-cases false b d f t k k′ e = cc
 skip-is : (t : Turn) (k : Cursor) → turned.Skip k ≡ turnedBy t → k ≡ t .after
 unfolding turnedBy
 skip-is t k e =
-    skip-cases (translated t) (leb (t .owner .source) (t .part .at)) (fits (t .part)) (t .part .to) (besideStart (t .part)) (t .after) k e
+    skip-cases (translated t) (leb (t .owner .source) (t .part .at)) (fits (t .part)) (t .part .to)
+    (besideStart (t .part)) (t .after) k e
 
 falls-end : (n p q x y : ℕ) → p ≡ q → x ≡ 0 → y ≡ 1 → (n - p) + x < (n - q) + y
 falls-end n p q x y e f g = rw (e, f, g) (omega arith)
@@ -137,16 +145,19 @@ falls-end n p q x y e f g = rw (e, f, g) (omega arith)
 -- a skip: the walk goes on, and a record fewer is left or the window is used up
 pub record Onward (s : List ℕ) (c₀ c k : Cursor) : Type 0 where
   pub same : walk c₀ (rest s (c .place)) c ≡ walk c₀ (rest s (k .place)) k
-  pub less : (length s / 8 - k .place) + min 1 (k .end - k .address) < (length s / 8 - c .place) + min 1 (c .end - c .address)
+  pub less : (length s / 8 - k .place) + min 1 (k .end - k .address) < (length s / 8 - c .place) + min 1
+      (c .end - c .address)
 
-module _ (s : List ℕ) (c₀ c k : Cursor) (h : c .address < c .end) (e : turned.Skip k ≡ turnedBy (nextTurn (rest s (c .place)) c)) where
+module _ (s : List ℕ) (c₀ c k : Cursor) (h : c .address < c .end)
+    (e : turned.Skip k ≡ turnedBy (nextTurn (rest s (c .place)) c)) where
   goes-on : walk c₀ (rest s (c .place)) c ≡ later (rest s (c .place)) c₀ c
   goes-on = walk-turn (rest s (c .place)) c₀ c h ∙ rw (← e)
 
   by-record : c .place < length s / 8 → Onward s c₀ c k
   by-record l =
       let x = entryAt s (c .place) in
-      let is : k ≡ pulled x (c .place + 1) c = skip-is (turnWith x (c .place + 1) c) k (e ∙ ap turnedBy (next-record s c l)) in
+      let is : k ≡ pulled x (c .place + 1) c = skip-is (turnWith x (c .place + 1) c) k
+      (e ∙ ap turnedBy (next-record s c l)) in
       let at : k .place ≡ c .place + 1 = ap (λ (q : Cursor). q .place) is in
       record {
         same =
@@ -158,7 +169,8 @@ module _ (s : List ℕ) (c₀ c k : Cursor) (h : c .address < c .end) (e : turne
   by-end : length s / 8 ≤ c .place → Onward s c₀ c k
   unfolding firstPiece
   by-end l =
-      let is : k ≡ pulled (endOf c) (c .place) c = skip-is (turnWith (endOf c) (c .place) c) k (e ∙ ap turnedBy (next-end s c l)) in
+      let is : k ≡ pulled (endOf c) (c .place) c = skip-is (turnWith (endOf c) (c .place) c) k
+      (e ∙ ap turnedBy (next-end s c l)) in
       let at : k .place ≡ c .place = ap (λ (q : Cursor). q .place) is in
       let ad : k .address ≡ min (c .end) (c .end) = ap (λ (q : Cursor). q .address) is in
       let en : k .end ≡ c .end = ap (λ (q : Cursor). q .end) is in
@@ -166,7 +178,8 @@ module _ (s : List ℕ) (c₀ c k : Cursor) (h : c .address < c .end) (e : turne
         same =
             goes-on ∙ ap (λ (q : List Entry). later q c₀ c) (nothing-left s c l) ∙ ap done (sym is)
             ∙ sym (walk-done (rest s (k .place)) c₀ k (omega arith));
-        less = falls-end (length s / 8) (k .place) (c .place) (min 1 (k .end - k .address)) (min 1 (c .end - c .address)) at (omega arith) (omega arith);
+        less = falls-end (length s / 8) (k .place) (c .place) (min 1 (k .end - k .address))
+            (min 1 (c .end - c .address)) at (omega arith) (omega arith);
       }
 
   pub skipped : Onward s c₀ c k

@@ -20,7 +20,8 @@ use Rattle.omap.specs.Walk.{partAt, left, InOrder, Below, Bounded, Begin
 use Rattle.omap.specs.declared.walk.Next.{Next}
 use Rattle.omap.specs.declared.walk.Next.the-variants as next
 use Rattle.omap.proofs.Last.{src}
-use Rattle.omap.proofs.Pieces.{next-some, next-none, between, piece-empty, piece-zero, piece-some, step-none, step-some, all-first, none-left, past-all}
+use Rattle.omap.proofs.Pieces.{next-some, next-none, between, piece-empty, piece-zero, piece-some, step-none}
+use Rattle.omap.proofs.Pieces.{step-some, all-first, none-left, past-all}
 
 -- the target of the record at place j
 abbrev pub tgt : List ℕ → ℕ → ℕ
@@ -31,7 +32,12 @@ module _ (s : List ℕ) where
   below-zero b z = record { within = omega arith; before = λ j h. absurd (omega arith); after = λ j h l. omega arith }
 
   pub below-some : (b r : ℕ) → 0 < b → FirstAbove 8 s (b - 1) r → Below s b r
-  below-some b r pos u = record { within = u .within; before = λ j h. omega (arith, u .below j h); after = λ j h l. omega (arith, u .above j h l) }
+  below-some b r pos u = record {
+    within = u .within;
+    before = λ j h. omega (arith, u .below j h);
+    after = λ j h l.
+        omega (arith, u .above j h l);
+  }
 
   pub begins-at-all : (a : ℕ) → Begins s a 0
   begins-at-all a b = ap (pieces a b) (all-first s)
@@ -42,7 +48,8 @@ module _ (s : List ℕ) where
   begins a k u (suc i) h b =
       let w : k ≤ length s / 8 = u .within in
       let at : src s (i + 1) ≤ a = u .below (i + 1) (omega arith) in
-      let e : partAt s a b i ≡ none = piece-empty a b (entryAt s i) (nextOf (rest s (i + 1))) (omega (arith, next-some s (i + 1) (omega arith))) in
+      let e : partAt s a b i ≡ none = piece-empty a b (entryAt s i) (nextOf (rest s (i + 1)))
+      (omega (arith, next-some s (i + 1) (omega arith))) in
       let f : i + 1 ≡ suc i = omega arith in
       begins a k u i (omega arith) b ∙ step-none s a b i (omega arith) e ∙ ap (λ (q : ℕ). pieces a b (rest s q)) f
 
@@ -74,7 +81,8 @@ module _ (s : List ℕ) where
         (lt-or-le (i + 1) (length s / 8))
 
 -- one record of the walk: it has no piece, or it has the one between lo and hi
-module _ (s : List ℕ) (a b j : ℕ) (h : j < length s / 8) (i : ℕ) (same : pieces a b (rest s i) ≡ pieces a b (rest s j)) where
+module _ (s : List ℕ) (a b j : ℕ) (h : j < length s / 8) (i : ℕ)
+    (same : pieces a b (rest s i) ≡ pieces a b (rest s j)) where
   pub walk-zero : tgt s j ≡ 0 → pieces a b (rest s i) ≡ pieces a b (rest s (j + 1))
   walk-zero z = same ∙ step-none s a b j h (piece-zero a b (entryAt s j) (nextOf (rest s (j + 1))) z)
 
@@ -86,7 +94,8 @@ module _ (s : List ℕ) (a b j : ℕ) (h : j < length s / 8) (i : ℕ) (same : p
       here : partAt s a b j ≡ some (between (entryAt s j) lo hi)
       here = rw (lo-is, hi-is) (piece-some a b (entryAt s j) (nextOf (rest s (j + 1))) (omega arith) z)
 
-      pub walk-found : Bytes s → i ≤ j → a ≤ 4294967295 → b ≤ 4294967295 → Found true s a b i (between (entryAt s j) lo hi) (j + 1)
+      pub walk-found : Bytes s → i ≤ j → a ≤ 4294967295 → b ≤ 4294967295 → Found true s a b i
+          (between (entryAt s j) lo hi) (j + 1)
       walk-found bytes m ha hb =
           let e : j + 1 - 1 ≡ j = omega arith in
           let t : tgt s j < 4294967296 = below 4 s (8 * j + 4) bytes in
@@ -116,20 +125,29 @@ module _ (s : List ℕ) (a b : ℕ) where
   absent-empty zero h = rw (piece-empty a b (itself a) 4294967296 (omega arith))
   absent-empty (suc i) h = refl
 
-  pub absent-found : (i : ℕ) → i ≡ 0 → (a ≡ 0 → ⊥) → a < b → b ≤ 4294967295 → Found false s a b i (record { at = a; size = b - a; to = a }) 1
+  pub absent-found : (i : ℕ) → i ≡ 0 → (a ≡ 0 → ⊥) → a < b → b ≤ 4294967295 → Found false s a b i
+      (record { at = a; size = b - a; to = a }) 1
   unfolding pieces put nextOf
   absent-found i o z h l =
       let e : max a a ≡ a = omega arith in
       let f : min b 4294967296 ≡ b = omega arith in
       let g : a - a + a ≡ a = omega arith in
       let p = rw (e, f, g) at (piece-some a b (itself a) 4294967296 (omega arith) z) in
-      rw o (record { first = rw p; owned = p; further = omega arith; some-of-it = omega arith; inside = omega arith; small = omega arith })
+      rw o (record {
+        first = rw p;
+        owned = p;
+        further = omega arith;
+        some-of-it = omega arith;
+        inside = omega arith;
+        small = omega arith;
+      })
 
 -- what is asked of a table behind its mark, where the mark is known
 pub present-order : (present : Bool) (s : List ℕ) → present ≡ true → InOrder present s → rising (keys 8 s) ≡ true
 present-order present s e o = subst (λ (t : Bool). InOrder t s) e o
 
-pub present-bound : (present : Bool) (s : List ℕ) (b last : ℕ) → present ≡ true → Bounded present s b last → Bounded true s b last
+pub present-bound : (present : Bool) (s : List ℕ) (b last : ℕ) → present ≡ true → Bounded present s b last
+    → Bounded true s b last
 present-bound present s b last e o = subst (λ (t : Bool). Bounded t s b last) e o
 
 -- what the next piece says, by its two answers

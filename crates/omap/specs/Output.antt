@@ -75,7 +75,8 @@ unlessFault (some n) w = refusedAs n
 
 -- the whole-window call, with room for so many entries: 1, 2, 3, 4, 5 or the number of pieces
 unfoldable pub windowSpec : Bool → List ℕ → ℕ → ℕ → ℕ → Window
-windowSpec present s a b room = unlessFault (windowFault present s a b) (roomFor (length (windowPieces present s a b)) room)
+windowSpec present s a b room = unlessFault (windowFault present s a b)
+    (roomFor (length (windowPieces present s a b)) room)
 
 -- only a call that is not refused writes
 abbrev pub outAfter : {A : Type 0} → Window → List A → List A → List A
@@ -85,4 +86,5 @@ outAfter (refusedFor n k) entries out = out
 
 -- what the call leaves in an output of u32 places, two to an entry
 unfoldable pub windowOut : Bool → List ℕ → ℕ → ℕ → List ℕ → List ℕ
-windowOut present s a b out = outAfter (windowSpec present s a b (length out / 2)) (flat (windowPieces present s a b)) out
+windowOut present s a b out = outAfter (windowSpec present s a b (length out / 2))
+    (flat (windowPieces present s a b)) out

@@ -14,7 +14,8 @@ yielded (piece start end c) on = andThen (on c) (λ (l : List ℕ). value (start
 yielded (done c) on = value []
 yielded (refusedAt n c) on = refused n
 
--- what a cursor yields, step after step, until it is done: its pieces as pairs, or the refusal that it meets; none if n steps do not do
+-- what a cursor yields, step after step, until it is done: its pieces as pairs, or the refusal that it meets; none if n
+-- steps do not do
 unfoldable pub run : Bool → List ℕ → ℕ → Cursor → Told (List ℕ)
 run present s zero c = nothing
 run present s (suc n) c = yielded (stepSpec present s c) (run present s n)

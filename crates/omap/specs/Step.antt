@@ -1,4 +1,5 @@
--- A range cursor by value: where it starts, and its step on any table, field by field as `lookup_range` and `RangeIter::next` go.
+-- A range cursor by value: where it starts, and its step on any table, field by field as `lookup_range` and
+-- `RangeIter::next` go.
 use Prim.Native.Nat.{ℕ, suc}
 use mathlib.Core.Bool.{Bool, cond, not, _&&_}
 use mathlib.Core.List.{List, [], _∷_}

@@ -14,7 +14,14 @@ on c = record { source = c .source; target = c .target }
 
 -- the cursor once it has pulled x, with p as the place after it
 abbrev pub pulled : Entry → ℕ → Cursor → Cursor
-pulled x p c = record { address = min (x .source) (c .end); end = c .end; source = x .source; target = x .target; place = p }
+pulled x p c = record {
+  address = min (x .source)
+      (c .end);
+  end = c .end;
+  source = x .source;
+  target = x .target;
+  place = p;
+}
 
 -- a turn: the record that owns the part, the part up to the next source, translated, and the cursor behind it
 pub record Turn : Type 0 where
@@ -26,7 +33,12 @@ abbrev pub turnWith : Entry → ℕ → Cursor → Turn
 turnWith x p c =
     record {
       owner = on c;
-      part = record { at = c .address; size = min (x .source) (c .end) - c .address; to = c .address - c .source + c .target };
+      part = record {
+        at = c .address;
+        size = min (x .source)
+            (c .end) - c .address;
+        to = c .address - c .source + c .target;
+      };
       after = pulled x p c;
     }
 

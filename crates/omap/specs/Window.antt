@@ -19,7 +19,12 @@ nextOf (x ∷ l) = x .source
 unfoldable pub pieceOf : ℕ → ℕ → Entry → ℕ → Option Piece
 pieceOf a b x e =
     cond (ltb (max a (x .source)) (min b e) && not (eqb (x .target) 0))
-    (some (record { at = max a (x .source); size = min b e - max a (x .source); to = max a (x .source) - x .source + x .target }))
+    (some (record {
+      at = max a (x .source);
+      size = min b e - max a (x .source);
+      to = max a
+          (x .source) - x .source + x .target;
+    }))
     none
 
 -- the pieces, in source order; neighbours are never joined

@@ -10,7 +10,7 @@ use lib.ListN.{length, drop}
 use Rattle.omap.specs.declared.walk.Piece as walk
 use Rattle.omap.specs.Window.{windowPieces}
 use Rattle.omap.specs.Output.{flat, Window, counted, refusedAs, refusedFor, outAfter, windowSpec, windowOut}
-use Rattle.ranges.specs.Shown.{asPiece, listOut}
+use Rattle.ranges.specs.ListOut.{asPiece, listOut}
 use Rattle.ranges.specs.declared.Piece.{Piece}
 
 -- the records as pairs
@@ -44,14 +44,17 @@ pairs-flat [] = refl
 pairs-flat (p ∷ l) = rw (pairs-flat l)
 
 -- what a call leaves in records, as pairs, is what it leaves in their places
-pairs-after : (w : Window) (l : List walk.Piece) (out : List Piece) → pairs (outAfter w (map asPiece l) out) ≡ outAfter w (flat l) (pairs out)
+pairs-after : (w : Window) (l : List walk.Piece) (out : List Piece) → pairs
+    (outAfter w (map asPiece l) out) ≡ outAfter w (flat l) (pairs out)
 pairs-after (counted n) l out =
-    let e : length (map asPiece l) + length (map asPiece l) ≡ length (flat l) = sym (pairs-length (map asPiece l)) ∙ ap length (pairs-flat l) in
+    let e : length (map asPiece l) + length (map asPiece l) ≡ length (flat l) = sym (pairs-length (map asPiece l))
+    ∙ ap length (pairs-flat l) in
     rw (pairs-append, pairs-drop, e, pairs-flat)
 pairs-after (refusedAs n) l out = refl
 pairs-after (refusedFor n k) l out = refl
 
-pub pairs-of-list : (present : Bool) (s : List ℕ) (a b : ℕ) (out : List Piece) → pairs (listOut present s a b out) ≡ windowOut present s a b (pairs out)
+pub pairs-of-list : (present : Bool) (s : List ℕ) (a b : ℕ) (out : List Piece) → pairs
+    (listOut present s a b out) ≡ windowOut present s a b (pairs out)
 unfolding listOut windowOut
 pairs-of-list present s a b out =
     rw pairs-half (pairs-after (windowSpec present s a b (length out)) (windowPieces present s a b) out)

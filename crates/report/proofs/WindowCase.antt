@@ -33,6 +33,7 @@ printed =
     ++ line (ascii "pieces 3")
 
 pub prints : windowText example ≡ printed
-unfolding leAt listed shapeFault risingAfter rising tableFault records nextOf pieceOf put pieces besideStart fits allFit sumFault windowFault
+unfolding leAt listed shapeFault risingAfter rising tableFault records nextOf pieceOf put pieces besideStart fits allFit
+    sumFault windowFault
     roomFor windowSpec glyph digits placesIn lines tableText windowText
 prints = refl

@@ -15,7 +15,8 @@ use Rattle.lent.proofs.Place.{length-listed}
 use Rattle.omap.specs.Records.{Entry, entryAt, records}
 use Rattle.omap.specs.Window.{nextOf, pieceOf, pieces, windowPieces}
 use Rattle.omap.specs.declared.walk.Piece.{Piece}
-use Rattle.omap.specs.Output.{besideStart, flat, windowFault, Window, counted, refusedAs, refusedFor, roomFor, unlessFault}
+use Rattle.omap.specs.Output.{besideStart, flat, windowFault, Window, counted, refusedAs, refusedFor, roomFor}
+use Rattle.omap.specs.Output.{unlessFault}
 use Rattle.omap.specs.Output.{windowSpec, windowOut}
 use Rattle.omap.proofs.Outputs.{length-flat}
 use Rattle.report.specs.Text.{ascii, digits, lines, numbered}

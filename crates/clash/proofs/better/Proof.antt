@@ -47,12 +47,14 @@ cast-target c = search needs
 returns : tie.Need-returns
 returns c =
     let k = c .before .before .before in
-    pass-high (s k) (b k) (last k) (st k .pre .1 .0) (st k .pre .0) (bytes k) (i k) (st k .pre .1 .1 .0) (st k .args .from) (st k .args .best) (omega arith) (omega arith) (omega arith)
+    pass-high (s k) (b k) (last k) (st k .pre .1 .0) (st k .pre .0) (bytes k) (i k) (st k .pre .1 .1 .0)
+    (st k .args .from) (st k .args .best) (omega arith) (omega arith) (omega arith)
 
 returns-2 : tie.Need-returns-2
 returns-2 c =
     let k = c .before .before .before .before in
-    pass-zero (s k) (b k) (last k) (st k .pre .1 .0) (st k .pre .0) (bytes k) (i k) (st k .pre .1 .1 .0) (st k .args .from) (st k .args .best) (omega arith) (omega arith)
+    pass-zero (s k) (b k) (last k) (st k .pre .1 .0) (st k .pre .0) (bytes k) (i k) (st k .pre .1 .1 .0)
+    (st k .args .from) (st k .args .best) (omega arith) (omega arith)
 
 mul-u32-at-2 : tie.Need-mul-u32-at-2
 mul-u32-at-2 c = search needs
@@ -66,7 +68,13 @@ end-in-requires c κs = search needs
 sub-size : tie.Need-sub-size
 sub-size c =
     let k = c .before .before .before .before .before .before in
-    omega (arith, c .before .u32-at2 .ensures, c .end-in .ensures, some-part (s k) (b k) (last k) (st k .pre .1 .0) (st k .pre .0) (bytes k) (i k) (st k .pre .1 .1 .0))
+    omega (
+      arith,
+      c .before .u32-at2 .ensures,
+      c .end-in .ensures,
+      some-part (s k) (b k) (last k) (st k .pre .1 .0)
+          (st k .pre .0) (bytes k) (i k) (st k .pre .1 .1 .0),
+    )
 
 cast-size : tie.Need-cast-size
 cast-size c = search needs
@@ -77,7 +85,8 @@ add-if3 c = search needs
 returns-3 : tie.Need-returns-3
 returns-3 c =
     let k = c .before .before .before .before .before .before .before in
-    pass-low (s k) (b k) (last k) (st k .pre .1 .0) (st k .pre .0) (bytes k) (i k) (st k .pre .1 .1 .0) (st k .args .from) (st k .args .best) (omega arith) (omega arith)
+    pass-low (s k) (b k) (last k) (st k .pre .1 .0) (st k .pre .0) (bytes k) (i k) (st k .pre .1 .1 .0)
+    (st k .args .from) (st k .args .best) (omega arith) (omega arith)
     (omega (arith, c .before .end-in .ensures, c .before .before .u32-at2 .ensures))
 
 cast-t16 : tie.Need-cast-t16
@@ -94,7 +103,8 @@ returns-4 c =
     let e = c .before .before in
     let k = e .before .before .before .before .before .before in
     rw (e .before .u32-at2 .ensures, e .before .before .before .before .before .u32-at .ensures)
-    (hit-first (s k) (b k) (last k) (st k .pre .1 .0) (st k .pre .0) (bytes k) (i k) (st k .pre .1 .1 .0) (st k .args .from) (st k .args .best) (omega arith) (omega arith) (omega arith)
+    (hit-first (s k) (b k) (last k) (st k .pre .1 .0) (st k .pre .0) (bytes k) (i k) (st k .pre .1 .1 .0)
+    (st k .args .from) (st k .args .best) (omega arith) (omega arith) (omega arith)
     (omega (arith, e .end-in .ensures, e .before .u32-at2 .ensures)))
 
 returns-5 : tie.Need-returns-5
@@ -102,7 +112,8 @@ returns-5 c =
     let e = c .before .before in
     let k = e .before .before .before .before .before .before in
     rw (e .before .u32-at2 .ensures, e .before .before .before .before .before .u32-at .ensures)
-    (hit-later (s k) (b k) (last k) (st k .pre .1 .0) (st k .pre .0) (bytes k) (i k) (st k .pre .1 .1 .0) (st k .args .from) (st k .args .best) (omega arith) (omega arith) (omega arith) (omega arith))
+    (hit-later (s k) (b k) (last k) (st k .pre .1 .0) (st k .pre .0) (bytes k) (i k) (st k .pre .1 .1 .0)
+    (st k .args .from) (st k .args .best) (omega arith) (omega arith) (omega arith) (omega arith))
 
 pub better-spec : {M : Type 1} → statement M
 better-spec =

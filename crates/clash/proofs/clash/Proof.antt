@@ -42,19 +42,22 @@ returns c =
     let a = c .before .before .before .before .before .args in
     let why = number (c .before .counted .given .0 .0) in
     clash-refused (now (a .table)) (a .a) (a .b) why
-    (was-refused true (now (a .table)) (a .a) (a .b) why (sym (ap toldCounted (c .before .counted .given .1)) ∙ c .before .before .before .count .ensures))
+    (was-refused true (now (a .table)) (a .a) (a .b) why
+    (sym (ap toldCounted (c .before .counted .given .1)) ∙ c .before .before .before .count .ensures))
 
 returns-2 : tie.Need-returns-2
 returns-2 c =
     let a = c .before .before .before .before .args in
     clash-refused (now (a .table)) (a .a) (a .b) 4
-    (was-refused true (now (a .table)) (a .a) (a .b) 4 (sym (ap toldCounted (c .enum-told .given .1)) ∙ c .before .before .count .ensures))
+    (was-refused true (now (a .table)) (a .a) (a .b) 4
+    (sym (ap toldCounted (c .enum-told .given .1)) ∙ c .before .before .count .ensures))
 
 returns-3 : tie.Need-returns-3
 returns-3 c =
     let k = c .before in
     let a = start k .args in
-    c .least-pair .ensures ∙ clash-given (now (a .table)) (a .a) (a .b) (counts k .order) (counts k .faultless) (omega arith)
+    c .least-pair .ensures ∙ clash-given (now (a .table)) (a .a) (a .b) (counts k .order) (counts k .faultless)
+    (omega arith)
 
 pub clash-spec : {M : Type 1} → statement M
 clash-spec =

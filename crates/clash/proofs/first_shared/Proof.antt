@@ -1,4 +1,5 @@
--- `clash::first_shared` meets its contract: the records left, searched below the best target found, give the first of all.
+-- `clash::first_shared` meets its contract: the records left, searched below the best target found, give the first of
+-- all.
 -- Assumes nothing.
 use Prim.Native.Nat.{ℕ, _+_, _-_}
 use mathlib.Core.Path.{_≡_, ap, _∙_}
@@ -10,7 +11,8 @@ use Rattle.omap.specs.Records.{rest}
 use Rattle.omap.specs.Window.{pieces}
 use Rattle.clash.specs.Clash.{Pair}
 use Rattle.clash.specs.Shared.{firstShared}
-use Rattle.clash.proofs.Later.{Searching, searching-first, searching-more, searching-found, searching-some, searching-none}
+use Rattle.clash.proofs.Later.{Searching, searching-first, searching-more, searching-found, searching-some}
+use Rattle.clash.proofs.Later.{searching-none}
 use Rattle.clash.proofs.first_shared.Statement.{statement}
 use Rattle.clash.proofs.first_shared.Tie as tie
 
@@ -59,7 +61,8 @@ better-requires c κs =
 returns : tie.Need-returns Inv-loop μ-loop
 returns c =
     let l = c .before .before .before .before in
-    searching-found (s l) (st l .args .b) (from l) (end l) (st l .args .start) (l .loop .j) (l .loop .best) (l .loop .inv)
+    searching-found (s l) (st l .args .b) (from l) (end l) (st l .args .start) (l .loop .j) (l .loop .best)
+    (l .loop .inv)
     (c .before .before .better .result) (c .before .before .better .ensures) (omega arith) (omega arith)
     ∙ whole l
 
@@ -69,20 +72,23 @@ loop-less c = omega arith
 loop-again : tie.Need-loop-again Inv-loop μ-loop
 loop-again c =
     let l = c .before .before .before .before in
-    searching-more (s l) (st l .args .b) (from l) (end l) (st l .args .start) (l .loop .j) (l .loop .best) (l .loop .inv)
+    searching-more (s l) (st l .args .b) (from l) (end l) (st l .args .start) (l .loop .j) (l .loop .best)
+    (l .loop .inv)
     (c .before .before .better .result) (c .before .before .better .ensures) (omega arith)
 
 returns-2 : tie.Need-returns-2 Inv-loop μ-loop
 returns-2 c =
     let l = c .before .before .before in
-    searching-some (s l) (st l .args .b) (from l) (end l) (st l .args .start) (l .loop .j) (l .loop .best) (l .loop .inv)
+    searching-some (s l) (st l .args .b) (from l) (end l) (st l .args .start) (l .loop .j) (l .loop .best)
+    (l .loop .inv)
     (st l .args .last) (st l .pre .1 .0) (st l .pre .0) (omega arith) (omega arith)
     ∙ whole l
 
 returns-3 : tie.Need-returns-3 Inv-loop μ-loop
 returns-3 c =
     let l = c .before .before .before in
-    searching-none (s l) (st l .args .b) (from l) (end l) (st l .args .start) (l .loop .j) (l .loop .best) (l .loop .inv)
+    searching-none (s l) (st l .args .b) (from l) (end l) (st l .args .start) (l .loop .j) (l .loop .best)
+    (l .loop .inv)
     (st l .args .last) (st l .pre .1 .0) (st l .pre .0) (omega arith) (omega arith)
     ∙ whole l
 

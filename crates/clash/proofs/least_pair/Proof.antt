@@ -54,10 +54,12 @@ module _ (c : tie.After-known-told Inv-loop μ-loop) where
   after = c .before .next .given .0 .1 .0
 
   found : Found true (s at) (a at) (b at) (at .loop .i) piece after
-  found = was-found true (s at) (a at) (b at) (at .loop .i) (c .before .before .before .next-piece .ensures) piece after (c .before .next .given .1)
+  found = was-found true (s at) (a at) (b at) (at .loop .i) (c .before .before .before .next-piece .ensures) piece after
+      (c .before .next .given .1)
 
   fewer : length (left true (s at) (a at) (b at) after) < length (left true (s at) (a at) (b at) (at .loop .i))
-  fewer = nearer true (s at) (a at) (b at) (at .loop .i) (c .before .before .before .next-piece .ensures) piece after (c .before .next .given .1)
+  fewer = nearer true (s at) (a at) (b at) (at .loop .i) (c .before .before .before .next-piece .ensures) piece after
+      (c .before .next .given .1)
 
 -- where it shares a target with a later one
 module _ (c : tie.After-known-told2 Inv-loop μ-loop) where
@@ -67,11 +69,13 @@ module _ (c : tie.After-known-told2 Inv-loop μ-loop) where
   abbrev shown : Pair
   shown = record { first = c .before .shared .given .0 .0; second = c .before .shared .given .0 .1 .0 }
 
-  shared : some shown ≡ firstShared (pieces 0 (b (at over)) (rest (s (at over)) (after over))) (piece over .to) (piece over .size)
+  shared : some shown ≡ firstShared (pieces 0 (b (at over)) (rest (s (at over)) (after over))) (piece over .to)
+      (piece over .size)
   shared = sym (ap toldShared (c .before .shared .given .1)) ∙ c .before .before .before .first-shared .ensures
 
   inside : (piece over .to ≤ shown .first) × (shown .first < piece over .to + piece over .size)
-  inside = shared-inside (s (at over)) (a (at over)) (b (at over)) (at over .loop .i) (piece over) (after over) (found over) (some shown) shared (shown .first) (shown .second) refl
+  inside = shared-inside (s (at over)) (a (at over)) (b (at over)) (at over .loop .i) (piece over) (after over)
+      (found over) (some shown) shared (shown .first) (shown .second) refl
 
 span-of-requires : tie.Need-span-of-requires Inv-loop μ-loop
 span-of-requires c κs = c .before .pre
@@ -103,7 +107,8 @@ returns c =
     let q = over m in
     let l = at q in
     rw (c .source-of .ensures)
-    (ap value (sym (l .loop .inv ∙ pair-from (s l) (a l) (b l) (l .loop .i) (piece q) (after q) (found q) (some (shown m)) (shared m) (st l .pre))))
+    (ap value (sym (l .loop .inv ∙ pair-from (s l) (a l) (b l) (l .loop .i) (piece q) (after q) (found q)
+    (some (shown m)) (shared m) (st l .pre))))
 
 enum-told : tie.Need-enum-told Inv-loop μ-loop
 enum-told c = search needs
@@ -117,7 +122,8 @@ loop-again c =
     let q = c .before .before .before in
     let l = at q in
     l .loop .inv
-    ∙ pair-from (s l) (a l) (b l) (l .loop .i) (piece q) (after q) (found q) none (sym (ap toldShared (c .enum-told .given .1)) ∙ c .before .before .first-shared .ensures) (st l .pre)
+    ∙ pair-from (s l) (a l) (b l) (l .loop .i) (piece q) (after q) (found q) none
+    (sym (ap toldShared (c .enum-told .given .1)) ∙ c .before .before .first-shared .ensures) (st l .pre)
 
 enum-told-2 : tie.Need-enum-told-2 Inv-loop μ-loop
 enum-told-2 c = search needs
@@ -125,7 +131,8 @@ enum-told-2 c = search needs
 returns-2 : tie.Need-returns-2 Inv-loop μ-loop
 returns-2 c =
     let l = c .before .before .before in
-    ap value (sym (l .loop .inv ∙ no-clash (left true (s l) (a l) (b l) (l .loop .i)) (was-end true (s l) (a l) (b l) (l .loop .i) (c .before .before .next-piece .ensures) (c .enum-told2 .given .1))))
+    ap value (sym (l .loop .inv ∙ no-clash (left true (s l) (a l) (b l) (l .loop .i))
+    (was-end true (s l) (a l) (b l) (l .loop .i) (c .before .before .next-piece .ensures) (c .enum-told2 .given .1))))
 
 pub least-pair-spec : {M : Type 1} → statement M
 least-pair-spec =

@@ -20,7 +20,8 @@ use Rattle.clash.proofs.walk_back.Statement.{statement}
 use Rattle.clash.proofs.walk_back.Tie as tie
 
 abbrev Inv-loop : tie.InvT-loop
-Inv-loop table a b t last i₀ kept₀ i kept = leastTwo (sourcesIn t (pieces a b (records table))) ≡ backAfter (soFar kept) (left true table a b i) t
+Inv-loop table a b t last i₀ kept₀ i kept = leastTwo (sourcesIn t (pieces a b (records table))) ≡ backAfter (soFar kept)
+    (left true table a b i) t
 
 abbrev μ-loop : tie.MeasureT-loop
 μ-loop table a b t last i₀ kept₀ i kept = length (left true table a b i)
@@ -51,16 +52,19 @@ module _ (c : tie.After-known-told Inv-loop μ-loop) where
   after = c .before .next .given .0 .1 .0
 
   found : Found true (s at) (a at) (b at) (at .loop .i) piece after
-  found = was-found true (s at) (a at) (b at) (at .loop .i) (c .before .before .before .next-piece .ensures) piece after (c .before .next .given .1)
+  found = was-found true (s at) (a at) (b at) (at .loop .i) (c .before .before .before .next-piece .ensures) piece after
+      (c .before .next .given .1)
 
   fewer : length (left true (s at) (a at) (b at) after) < length (left true (s at) (a at) (b at) (at .loop .i))
-  fewer = nearer true (s at) (a at) (b at) (at .loop .i) (c .before .before .before .next-piece .ensures) piece after (c .before .next .given .1)
+  fewer = nearer true (s at) (a at) (b at) (at .loop .i) (c .before .before .before .next-piece .ensures) piece after
+      (c .before .next .given .1)
 
 span-of-requires : tie.Need-span-of-requires Inv-loop μ-loop
 span-of-requires c κs = c .before .pre
 
 loop-holds : tie.Need-loop-holds Inv-loop μ-loop
-loop-holds c = let a = c .before .before .args in ap (λ (l : List Piece). leastTwo (sourcesIn (a .t) l)) (c .span-of .ensures .all)
+loop-holds c = let a = c .before .before .args in ap (λ (l : List Piece). leastTwo (sourcesIn (a .t) l))
+    (c .span-of .ensures .all)
 
 next-piece-requires : tie.Need-next-piece-requires Inv-loop μ-loop
 next-piece-requires c κs = c .before .span-of .ensures .bounded
@@ -79,7 +83,8 @@ loop-again c =
     let q = c .before in
     let l = at q in
     l .loop .inv
-    ∙ back-more (soFar (l .loop .kept)) (soFar (c .with-piece .result)) (left true (s l) (a l) (b l) (l .loop .i)) (piece q) (left true (s l) (a l) (b l) (after q)) (st l .args .t)
+    ∙ back-more (soFar (l .loop .kept)) (soFar (c .with-piece .result)) (left true (s l) (a l) (b l) (l .loop .i))
+    (piece q) (left true (s l) (a l) (b l) (after q)) (st l .args .t)
     (found q .first) (c .with-piece .ensures)
 
 enum-told : tie.Need-enum-told Inv-loop μ-loop
@@ -93,7 +98,8 @@ returns c =
     let l = c .before .before .before .before in
     c .back-of .ensures
     ∙ sym (l .loop .inv ∙ back-last (soFar (l .loop .kept)) (left true (s l) (a l) (b l) (l .loop .i)) (st l .args .t)
-    (was-end true (s l) (a l) (b l) (l .loop .i) (c .before .before .before .next-piece .ensures) (c .before .enum-told .given .1)))
+    (was-end true (s l) (a l) (b l) (l .loop .i) (c .before .before .before .next-piece .ensures)
+    (c .before .enum-told .given .1)))
 
 pub walk-back-spec : {M : Type 1} → statement M
 walk-back-spec =

@@ -31,7 +31,8 @@ unfolding put
 returns-3 c =
     λ l.
     let a = c .before .before .before .before .before .before .args in
-    rw (source-here (a .t) (a .piece) (omega arith) (omega arith), ← (c .before .source-of .ensures)) (c .with-source .ensures l)
+    rw (source-here (a .t) (a .piece) (omega arith) (omega arith), ← (c .before .source-of .ensures))
+    (c .with-source .ensures l)
 
 pub with-piece-spec : {M : Type 1} → statement M
 with-piece-spec =

@@ -27,11 +27,13 @@ returns c = λ l. ap (λ (f : Kept). leastTwo (soFar f ++ (c .before .before .ar
 
 returns-2 : tie.Need-returns-2
 unfolding leastTwo
-returns-2 c = λ l. ap (λ (f : Kept). leastTwo (soFar f ++ (c .before .before .before .args .x ∷ l))) (c .before .kept .given .1)
+returns-2 c = λ l. ap (λ (f : Kept). leastTwo (soFar f ++ (c .before .before .before .args .x ∷ l)))
+    (c .before .kept .given .1)
 
 returns-3 : tie.Need-returns-3
 unfolding leastTwo
-returns-3 c = λ l. ap (λ (f : Kept). leastTwo (soFar f ++ (c .before .before .before .args .x ∷ l))) (c .before .kept2 .given .1)
+returns-3 c = λ l. ap (λ (f : Kept). leastTwo (soFar f ++ (c .before .before .before .args .x ∷ l)))
+    (c .before .kept2 .given .1)
 
 pub with-source-spec : {M : Type 1} → statement M
 with-source-spec =

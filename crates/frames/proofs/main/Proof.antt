@@ -20,10 +20,12 @@ returns : tie.Need-returns
 returns c = search needs
 
 array-share-prefix-input : tie.Need-array-share-prefix-input
-array-share-prefix-input c = whole _ _ _ (c .before .taken .given .1) (c .before .before .before .before .take .ensures) .0
+array-share-prefix-input c = whole _ _ _ (c .before .taken .given .1)
+    (c .before .before .before .before .take .ensures) .0
 
 slice-aggregate-frames-text : tie.Need-slice-aggregate-frames-text
-slice-aggregate-frames-text c = whole _ _ _ (c .before .before .taken .given .1) (c .before .before .before .before .before .take .ensures) .1
+slice-aggregate-frames-text c = whole _ _ _ (c .before .before .taken .given .1)
+    (c .before .before .before .before .before .take .ensures) .1
 
 slice-aggregate-frames-text-2 : tie.Need-slice-aggregate-frames-text-2
 slice-aggregate-frames-text-2 c = search needs

@@ -20,7 +20,8 @@ returns : tie.Need-returns
 unfolding tableFault
 returns c =
     let a = c .before .before .before .before .before .args in
-    let e : some (number (c .before .shaped .given .0 .0)) ≡ shapeFault (record { width = a .width; most = a .most }) (now (a .table))
+    let e : some (number (c .before .shaped .given .0 .0)) ≡ shapeFault (record { width = a .width; most = a .most })
+    (now (a .table))
     = sym (ap toldChecked (c .before .shaped .given .1)) ∙ c .before .before .before .shape .ensures in
     rw (← e)
 
@@ -36,7 +37,8 @@ returns-2 c =
     let a = c .before .before .before .before .before .before .args in
     let s = now (a .table) in
     let e : none ≡ shapeFault (record { width = a .width; most = a .most }) s
-    = sym (ap toldChecked (c .before .before .enum-told .given .1)) ∙ c .before .before .before .before .shape .ensures in
+    = sym (ap toldChecked (c .before .before .enum-told .given .1))
+    ∙ c .before .before .before .before .shape .ensures in
     rw (← e, sym (c .before .in-order .ensures) ∙ c .if1 .taken)
 
 returns-3 : tie.Need-returns-3
@@ -45,7 +47,8 @@ returns-3 c =
     let a = c .before .before .before .before .before .before .args in
     let s = now (a .table) in
     let e : none ≡ shapeFault (record { width = a .width; most = a .most }) s
-    = sym (ap toldChecked (c .before .before .enum-told .given .1)) ∙ c .before .before .before .before .shape .ensures in
+    = sym (ap toldChecked (c .before .before .enum-told .given .1))
+    ∙ c .before .before .before .before .shape .ensures in
     rw (← e, sym (c .before .in-order .ensures) ∙ c .if1 .left)
 
 pub check-spec : {M : Type 1} → statement M

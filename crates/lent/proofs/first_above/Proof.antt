@@ -49,10 +49,18 @@ add-mid : tie.Need-add-mid Inv-loop μ-loop
 add-mid c = omega (arith, c .before .loop .inv .within, div-le-self (length (s c)) (w c))
 
 mul-u32-at : tie.Need-mul-u32-at Inv-loop μ-loop
-mul-u32-at c = omega (arith, inside (w c) (length (s c)) (middle (lo c) (hi c)) (omega (arith, c .before .loop .inv .within)))
+mul-u32-at c = omega (
+  arith,
+  inside (w c) (length (s c)) (middle (lo c) (hi c))
+      (omega (arith, c .before .loop .inv .within)),
+)
 
 u32-at-requires : tie.Need-u32-at-requires Inv-loop μ-loop
-u32-at-requires c κs = omega (arith, inside (w c) (length (s c)) (middle (lo c) (hi c)) (omega (arith, c .before .loop .inv .within)))
+u32-at-requires c κs = omega (
+  arith,
+  inside (w c) (length (s c)) (middle (lo c) (hi c))
+      (omega (arith, c .before .loop .inv .within)),
+)
 
 add-chosen : tie.Need-add-chosen Inv-loop μ-loop
 add-chosen c =
@@ -73,10 +81,13 @@ module _ (c : tie.After-chosen2 Inv-loop μ-loop) where
   abbrev start : tie.Start Inv-loop μ-loop
   start = l .before .before .before
 
-  loop-next : Halving (w l) (s l) (start .args .address) (c .before .chosen .result) (c .chosen2 .result) × (c .chosen2 .result - c .before .chosen .result < hi l - lo l)
+  loop-next : Halving (w l) (s l) (start .args .address) (c .before .chosen .result)
+      (c .chosen2 .result) × (c .chosen2 .result - c .before .chosen .result < hi l - lo l)
   loop-next =
-      halving-next (w l) (s l) (start .args .address) (lo l) (hi l) (l .before .loop .inv) (start .pre .1) (omega (arith, l))
-      (leb (c .before .before .u32-at .result) (start .args .address)) (ap (λ (k : ℕ). leb k (start .args .address)) (c .before .before .u32-at .ensures))
+      halving-next (w l) (s l) (start .args .address) (lo l) (hi l) (l .before .loop .inv) (start .pre .1)
+      (omega (arith, l))
+      (leb (c .before .before .u32-at .result) (start .args .address))
+      (ap (λ (k : ℕ). leb k (start .args .address)) (c .before .before .u32-at .ensures))
       (c .before .chosen .result) (c .chosen2 .result) (c .before .chosen .ensures) (c .chosen2 .ensures)
 
 loop-less : tie.Need-loop-less Inv-loop μ-loop
@@ -88,7 +99,8 @@ loop-again c = loop-next c .0
 returns : tie.Need-returns Inv-loop μ-loop
 returns c =
     let a = c .before .before .before .args in
-    halving-last (a .width) (now (a .table)) (a .address) (c .before .loop .lo) (c .before .loop .hi) (c .before .loop .inv) (omega arith)
+    halving-last (a .width) (now (a .table)) (a .address) (c .before .loop .lo) (c .before .loop .hi)
+    (c .before .loop .inv) (omega arith)
 
 pub first-above-spec : {M : Type 1} → statement M
 first-above-spec =

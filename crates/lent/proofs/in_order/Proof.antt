@@ -20,7 +20,8 @@ use Rattle.lent.proofs.in_order.Tie as tie
 
 abbrev Inv-loop : tie.InvT-loop
 Inv-loop table width n fault₀ before₀ i₀ fault before i = (1 ≤ i)
-    × ((i ≤ n) × ((n ≡ length table / width) × (rising (keys width table) ≡ (eqb fault 0 && risingAfter before (listed (keyAt width table) i (n - i))))))
+    × ((i ≤ n) × ((n ≡ length table / width) × (rising
+    (keys width table) ≡ (eqb fault 0 && risingAfter before (listed (keyAt width table) i (n - i))))))
 
 abbrev μ-loop : tie.MeasureT-loop
 μ-loop table width n fault₀ before₀ i₀ fault before i = n - i
@@ -49,14 +50,27 @@ loop-holds : tie.Need-loop-holds Inv-loop μ-loop
 loop-holds c =
     let a = c .before .before .before .args in
     let t = now (a .table) in
-    let e : leAt 4 t 0 ≡ keyAt (a .width) t 0 = ap (leAt 4 t) (sym (mul-zero (a .width))) in
-    (omega arith, (omega arith, (refl, rw (c .u32-at .ensures, e) (rising-first (keyAt (a .width) t) (length t / a .width) (omega arith)))))
+    let e : leAt 4 t 0 ≡ keyAt (a .width) t 0 = ap (leAt 4 t) (sym (mul-zero (a .width))) in (
+      omega arith,
+      (
+        omega arith,
+        (
+          refl,
+          rw (c .u32-at .ensures, e)
+              (rising-first (keyAt (a .width) t) (length t / a .width) (omega arith)),
+        ),
+      ),
+    )
 
 mul-u32-at : tie.Need-mul-u32-at Inv-loop μ-loop
 mul-u32-at c = omega (arith, inside (w (c .before)) (length (s (c .before))) (c .before .loop .i) (omega arith))
 
 u32-at-requires-2 : tie.Need-u32-at-requires-2 Inv-loop μ-loop
-u32-at-requires-2 c κs = omega (arith, inside (w (c .before)) (length (s (c .before))) (c .before .loop .i) (omega arith))
+u32-at-requires-2 c κs = omega (
+  arith,
+  inside (w (c .before)) (length (s (c .before))) (c .before .loop .i)
+      (omega arith),
+)
 
 not-above-requires : tie.Need-not-above-requires Inv-loop μ-loop
 not-above-requires c κs = search needs
@@ -76,7 +90,8 @@ loop-again c =
         (
           refl,
           rw (c .not-above .ensures, c .before .u32-at2 .ensures)
-              (l .loop .inv .1 .1 .1 ∙ after-step (keyAt (w l) (s l)) (l .loop .i) (length (s l) / w l) (l .loop .before) (omega arith) (l .loop .fault)),
+              (l .loop .inv .1 .1 .1 ∙ after-step (keyAt (w l) (s l)) (l .loop .i) (length (s l) / w l)
+              (l .loop .before) (omega arith) (l .loop .fault)),
         ),
       ),
     )
@@ -84,7 +99,8 @@ loop-again c =
 returns-2 : tie.Need-returns-2 Inv-loop μ-loop
 returns-2 c =
     let l = c .before in
-    sym (l .loop .inv .1 .1 .1 ∙ ap (λ (t : Bool). eqb (l .loop .fault) 0 && t) (rising-all (keyAt (w l) (s l)) (l .loop .before) (l .loop .i) (length (s l) / w l) (omega arith))
+    sym (l .loop .inv .1 .1 .1 ∙ ap (λ (t : Bool). eqb (l .loop .fault) 0 && t)
+    (rising-all (keyAt (w l) (s l)) (l .loop .before) (l .loop .i) (length (s l) / w l) (omega arith))
     ∙ and-true (eqb (l .loop .fault) 0))
 
 pub in-order-spec : {M : Type 1} → statement M

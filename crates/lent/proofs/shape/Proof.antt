@@ -25,13 +25,21 @@ returns-2 : tie.Need-returns-2
 unfolding shapeFault
 returns-2 c =
     let a = c .before .before .args in
-    rw (eq-eqb (length (now (a .table)) % a .width) 0 (search needs), lt-leb (length (now (a .table)) / a .width) (a .most) (c .if2 .taken))
+    rw (
+      eq-eqb (length (now (a .table)) % a .width) 0 (search needs),
+      lt-leb (length (now (a .table)) / a .width)
+          (a .most) (c .if2 .taken),
+    )
 
 returns-3 : tie.Need-returns-3
 unfolding shapeFault
 returns-3 c =
     let a = c .before .before .args in
-    rw (eq-eqb (length (now (a .table)) % a .width) 0 (search needs), le-leb (length (now (a .table)) / a .width) (a .most) (c .if2 .left))
+    rw (
+      eq-eqb (length (now (a .table)) % a .width) 0 (search needs),
+      le-leb (length (now (a .table)) / a .width)
+          (a .most) (c .if2 .left),
+    )
 
 pub shape-spec : {M : Type 1} → statement M
 shape-spec = tie.close (tie.spec rem-if1 returns div-if2 returns-2 returns-3)

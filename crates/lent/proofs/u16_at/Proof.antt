@@ -32,7 +32,11 @@ cast-result : tie.Need-cast-result
 cast-result c = omega arith
 
 returns : tie.Need-returns
-returns c = omega (arith, two-bytes (now (c .before .before .before .before .before .args .s)) (c .before .before .before .before .before .args .at))
+returns c = omega (
+  arith,
+  two-bytes (now (c .before .before .before .before .before .args .s))
+      (c .before .before .before .before .before .args .at),
+)
 
 pub u16-at-spec : {M : Type 1} → statement M
 u16-at-spec =

@@ -62,7 +62,12 @@ cast-result : tie.Need-cast-result
 cast-result c = omega arith
 
 returns : tie.Need-returns
-returns c = omega (arith, four-bytes (now (c .before .before .before .before .before .before .before .before .before .args .s)) (c .before .before .before .before .before .before .before .before .before .args .at))
+returns c = omega (
+  arith,
+  four-bytes
+      (now (c .before .before .before .before .before .before .before .before .before .args .s))
+      (c .before .before .before .before .before .before .before .before .before .args .at),
+)
 
 pub u32-at-spec : {M : Type 1} → statement M
 u32-at-spec =

@@ -22,7 +22,8 @@ enum-known-checked c = search needs
 returns : tie.Need-returns
 returns c =
     let a = c .before .before .before .before .before .args in
-    look-refused (now (a .table)) (a .address) (number (c .before .checked .given .0 .0)) (sym (ap toldChecked (c .before .checked .given .1)) ∙ c .before .before .before .omap-check .ensures)
+    look-refused (now (a .table)) (a .address) (number (c .before .checked .given .0 .0))
+    (sym (ap toldChecked (c .before .checked .given .1)) ∙ c .before .before .before .omap-check .ensures)
 
 enum-told : tie.Need-enum-told
 enum-told c = search needs
@@ -32,13 +33,18 @@ good : (c : tie.After-enum-told) → none ≡ omapFault (now (c .before .before 
 good c = sym (ap toldChecked (c .enum-told .given .1)) ∙ c .before .before .omap-check .ensures
 
 first-above-requires : tie.Need-first-above-requires
-first-above-requires c κs = (omega arith, in-order (now (c .before .before .before .before .args .table)) (sym (good c)))
+first-above-requires c κs = (
+  omega arith,
+  in-order (now (c .before .before .before .before .args .table))
+      (sym (good c)),
+)
 
 returns-2 : tie.Need-returns-2
 returns-2 c =
     let g = c .before .before in
     let a = g .before .before .before .before .args in
-    look-none (now (a .table)) (a .address) (good g) (subst (FirstAbove 8 (now (a .table)) (a .address)) (c .if1 .taken) (c .before .first-above .ensures))
+    look-none (now (a .table)) (a .address) (good g)
+    (subst (FirstAbove 8 (now (a .table)) (a .address)) (c .if1 .taken) (c .before .first-above .ensures))
 
 sub-at : tie.Need-sub-at
 sub-at c = search needs
@@ -63,7 +69,8 @@ returns-3 c =
     let f = c .before .before .before in
     let g = f .before .before in
     let a = g .before .before .before .before .args in
-    look-zero (now (a .table)) (a .address) (good g) (f .before .first-above .result) (omega (arith, f)) (f .before .first-above .ensures) (omega arith)
+    look-zero (now (a .table)) (a .address) (good g) (f .before .first-above .result) (omega (arith, f))
+    (f .before .first-above .ensures) (omega arith)
 
 sub-into : tie.Need-sub-into
 sub-into c =
@@ -82,14 +89,16 @@ returns-4 c =
     let g = f .before .before in
     let a = g .before .before .before .before .args in
     rw (c .before .before .before .u32-at .ensures, c .before .before .u32-at2 .ensures)
-    (look-at (now (a .table)) (a .address) (good g) (f .before .first-above .result) (omega (arith, f)) (f .before .first-above .ensures) (λ z. c .before .if2 .left (omega arith)) (omega arith))
+    (look-at (now (a .table)) (a .address) (good g) (f .before .first-above .result) (omega (arith, f))
+    (f .before .first-above .ensures) (λ z. c .before .if2 .left (omega arith)) (omega arith))
 
 returns-5 : tie.Need-returns-5
 returns-5 c =
     let f = c .before .before .before .before in
     let g = f .before .before in
     let a = g .before .before .before .before .args in
-    look-large (now (a .table)) (a .address) (good g) (f .before .first-above .result) (omega (arith, f)) (f .before .first-above .ensures) (λ z. c .before .if2 .left (omega arith)) (omega arith)
+    look-large (now (a .table)) (a .address) (good g) (f .before .first-above .result) (omega (arith, f))
+    (f .before .first-above .ensures) (λ z. c .before .if2 .left (omega arith)) (omega arith)
 
 pub look-spec : {M : Type 1} → statement M
 look-spec =

@@ -20,7 +20,8 @@ enum-known-shaped c = search needs
 returns : tie.Need-returns
 returns c =
     let a = c .before .before .before .before .before .args in
-    record-refused (now (a .table)) (a .place) (number (c .before .shaped .given .0 .0)) (sym (ap toldChecked (c .before .shaped .given .1)) ∙ c .before .before .before .omap-shape .ensures)
+    record-refused (now (a .table)) (a .place) (number (c .before .shaped .given .0 .0))
+    (sym (ap toldChecked (c .before .shaped .given .1)) ∙ c .before .before .before .omap-shape .ensures)
 
 enum-told : tie.Need-enum-told
 enum-told c = search needs
@@ -48,7 +49,8 @@ returns-2 : tie.Need-returns-2
 returns-2 c =
     let g = c .before .before .before in
     let a = g .before .before .before .before .args in
-    rw (c .before .u32-at .ensures, c .u32-at2 .ensures) (record-given (now (a .table)) (a .place) (good g) (omega arith))
+    rw (c .before .u32-at .ensures, c .u32-at2 .ensures)
+    (record-given (now (a .table)) (a .place) (good g) (omega arith))
 
 returns-3 : tie.Need-returns-3
 returns-3 c =

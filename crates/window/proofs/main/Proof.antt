@@ -20,10 +20,12 @@ returns : tie.Need-returns
 returns c = search needs
 
 array-share-prefix-input : tie.Need-array-share-prefix-input
-array-share-prefix-input c = whole _ _ _ (c .before .taken .given .1) (c .before .before .before .before .take .ensures) .0
+array-share-prefix-input c = whole _ _ _ (c .before .taken .given .1)
+    (c .before .before .before .before .take .ensures) .0
 
 slice-aggregate-window-text : tie.Need-slice-aggregate-window-text
-slice-aggregate-window-text c = whole _ _ _ (c .before .before .taken .given .1) (c .before .before .before .before .before .take .ensures) .1
+slice-aggregate-window-text c = whole _ _ _ (c .before .before .taken .given .1)
+    (c .before .before .before .before .before .take .ensures) .1
 
 slice-aggregate-window-text-2 : tie.Need-slice-aggregate-window-text-2
 slice-aggregate-window-text-2 c = search needs

@@ -12,15 +12,19 @@ gillacorn-section-offset-requires c κs = search needs
 
 expect-requires : tie.Need-expect-requires
 expect-requires c κs =
-    eq-eqb _ _ (ap (λ (x : OffsetAnswer). x .code) (c .before .gillacorn-section-offset .ensures ∙ c .before .before .before .pre))
+    eq-eqb _ _ (ap (λ (x : OffsetAnswer). x .code)
+    (c .before .gillacorn-section-offset .ensures ∙ c .before .before .before .pre))
 
 expect-requires-2 : tie.Need-expect-requires-2
 expect-requires-2 c κs =
-    eq-eqb _ _ (ap (λ (x : OffsetAnswer). x .section) (c .before .before .before .gillacorn-section-offset .ensures ∙ c .before .before .before .before .before .pre))
+    eq-eqb _ _ (ap (λ (x : OffsetAnswer). x .section)
+    (c .before .before .before .gillacorn-section-offset .ensures ∙ c .before .before .before .before .before .pre))
 
 expect-requires-3 : tie.Need-expect-requires-3
 expect-requires-3 c κs =
-    eq-eqb _ _ (ap (λ (x : OffsetAnswer). x .offset) (c .before .before .before .before .before .gillacorn-section-offset .ensures ∙ c .before .before .before .before .before .before .before .pre))
+    eq-eqb _ _ (ap (λ (x : OffsetAnswer). x .offset)
+    (c .before .before .before .before .before .gillacorn-section-offset .ensures
+    ∙ c .before .before .before .before .before .before .before .pre))
 
 returns : tie.Need-returns
 returns c = search needs

@@ -1,4 +1,5 @@
--- Each answer is what the definition by pieces computes to, which is the one by addresses (`clash-computed`, `back-computed`).
+-- Each answer is what the definition by pieces computes to, which is the one by addresses (`clash-computed`,
+-- `back-computed`).
 -- Assumes nothing.
 use mathlib.Core.Path.{ap}
 use native.Mathlib.Omega.{arith}
@@ -19,7 +20,8 @@ use Rattle.cases.proofs.clashes.all.Statement.{statement}
 use Rattle.cases.proofs.clashes.all.Tie as tie
 
 pub all-spec : {M : Type 1} → statement M
-unfolding leAt listed shapeFault risingAfter rising tableFault records orElse nextOf pieceOf put pieces besideStart fits allFit sumFault windowFault pairedOr leastTwo sourceIn sourcesIn firstMet clashOf
+unfolding leAt listed shapeFault risingAfter rising tableFault records orElse nextOf pieceOf put pieces besideStart fits
+    allFit sumFault windowFault pairedOr leastTwo sourceIn sourcesIn firstMet clashOf
 all-spec =
     tie.close
     (tie.spec

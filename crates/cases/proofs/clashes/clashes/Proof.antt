@@ -16,11 +16,14 @@ expect-requires c κs =
 
 expect-requires-2 : tie.Need-expect-requires-2
 expect-requires-2 c κs =
-    eq-eqb _ _ (ap (λ (x : PairAnswer). x .first) (c .before .before .before .gillacorn-clash .ensures ∙ c .before .before .before .before .before .pre))
+    eq-eqb _ _ (ap (λ (x : PairAnswer). x .first)
+    (c .before .before .before .gillacorn-clash .ensures ∙ c .before .before .before .before .before .pre))
 
 expect-requires-3 : tie.Need-expect-requires-3
 expect-requires-3 c κs =
-    eq-eqb _ _ (ap (λ (x : PairAnswer). x .second) (c .before .before .before .before .before .gillacorn-clash .ensures ∙ c .before .before .before .before .before .before .before .pre))
+    eq-eqb _ _ (ap (λ (x : PairAnswer). x .second)
+    (c .before .before .before .before .before .gillacorn-clash .ensures
+    ∙ c .before .before .before .before .before .before .before .pre))
 
 returns : tie.Need-returns
 returns c = search needs

@@ -12,19 +12,25 @@ gillacorn-way-back-requires c κs = search needs
 
 expect-requires : tie.Need-expect-requires
 expect-requires c κs =
-    eq-eqb _ _ (ap (λ (x : SourcesAnswer). x .code) (c .before .gillacorn-way-back .ensures ∙ c .before .before .before .pre))
+    eq-eqb _ _ (ap (λ (x : SourcesAnswer). x .code)
+    (c .before .gillacorn-way-back .ensures ∙ c .before .before .before .pre))
 
 expect-requires-2 : tie.Need-expect-requires-2
 expect-requires-2 c κs =
-    eq-eqb _ _ (ap (λ (x : SourcesAnswer). x .sources) (c .before .before .before .gillacorn-way-back .ensures ∙ c .before .before .before .before .before .pre))
+    eq-eqb _ _ (ap (λ (x : SourcesAnswer). x .sources)
+    (c .before .before .before .gillacorn-way-back .ensures ∙ c .before .before .before .before .before .pre))
 
 expect-requires-3 : tie.Need-expect-requires-3
 expect-requires-3 c κs =
-    eq-eqb _ _ (ap (λ (x : SourcesAnswer). x .first) (c .before .before .before .before .before .gillacorn-way-back .ensures ∙ c .before .before .before .before .before .before .before .pre))
+    eq-eqb _ _ (ap (λ (x : SourcesAnswer). x .first)
+    (c .before .before .before .before .before .gillacorn-way-back .ensures
+    ∙ c .before .before .before .before .before .before .before .pre))
 
 expect-requires-4 : tie.Need-expect-requires-4
 expect-requires-4 c κs =
-    eq-eqb _ _ (ap (λ (x : SourcesAnswer). x .second) (c .before .before .before .before .before .before .before .gillacorn-way-back .ensures ∙ c .before .before .before .before .before .before .before .before .before .pre))
+    eq-eqb _ _ (ap (λ (x : SourcesAnswer). x .second)
+    (c .before .before .before .before .before .before .before .gillacorn-way-back .ensures
+    ∙ c .before .before .before .before .before .before .before .before .before .pre))
 
 returns : tie.Need-returns
 returns c = search needs

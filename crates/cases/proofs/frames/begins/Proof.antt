@@ -12,15 +12,20 @@ gillacorn-frames-at-requires c κs = search needs
 
 expect-requires : tie.Need-expect-requires
 expect-requires c κs =
-    eq-eqb _ _ (ap (λ (x : FrameCursorAnswer). x .code) (c .before .before .gillacorn-frames-at .ensures ∙ c .before .before .before .before .before .pre))
+    eq-eqb _ _ (ap (λ (x : FrameCursorAnswer). x .code)
+    (c .before .before .gillacorn-frames-at .ensures ∙ c .before .before .before .before .before .pre))
 
 expect-requires-2 : tie.Need-expect-requires-2
 expect-requires-2 c κs =
-    eq-eqb _ _ (ap (λ (x : FrameCursorAnswer). x .cursor .«old_index») (c .before .before .before .before .gillacorn-frames-at .ensures ∙ c .before .before .before .before .before .before .before .pre))
+    eq-eqb _ _ (ap (λ (x : FrameCursorAnswer). x .cursor .«old_index»)
+    (c .before .before .before .before .gillacorn-frames-at .ensures
+    ∙ c .before .before .before .before .before .before .before .pre))
 
 expect-requires-3 : tie.Need-expect-requires-3
 expect-requires-3 c κs =
-    eq-eqb _ _ (ap (λ (x : FrameCursorAnswer). x .cursor .«new_index») (c .before .before .before .before .before .before .gillacorn-frames-at .ensures ∙ c .before .before .before .before .before .before .before .before .before .pre))
+    eq-eqb _ _ (ap (λ (x : FrameCursorAnswer). x .cursor .«new_index»)
+    (c .before .before .before .before .before .before .gillacorn-frames-at .ensures
+    ∙ c .before .before .before .before .before .before .before .before .before .pre))
 
 returns : tie.Need-returns
 returns c = search needs

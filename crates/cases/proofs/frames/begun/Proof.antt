@@ -12,7 +12,8 @@ use Rattle.cases.proofs.frames.begun.Statement.{statement}
 use Rattle.cases.proofs.frames.begun.Tie as tie
 
 pub begun-spec : {M : Type 1} → statement M
-unfolding leAt listed shapeFault risingAfter rising tableFault attributes fromOld fromNew lesser stepSpec lastAt placeSpec startSpec
+unfolding leAt listed shapeFault risingAfter rising tableFault attributes fromOld fromNew lesser stepSpec lastAt
+    placeSpec startSpec
 begun-spec =
     tie.close
     (tie.spec

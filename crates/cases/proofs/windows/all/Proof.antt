@@ -13,7 +13,8 @@ use Rattle.cases.proofs.windows.all.Statement.{statement}
 use Rattle.cases.proofs.windows.all.Tie as tie
 
 pub all-spec : {M : Type 1} → statement M
-unfolding leAt listed shapeFault risingAfter rising tableFault records nextOf pieceOf put pieces besideStart fits allFit sumFault windowFault flat roomFor windowSpec windowOut
+unfolding leAt listed shapeFault risingAfter rising tableFault records nextOf pieceOf put pieces besideStart fits allFit
+    sumFault windowFault flat roomFor windowSpec windowOut
 all-spec =
     tie.close
     (tie.spec

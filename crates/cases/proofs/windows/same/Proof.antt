@@ -31,7 +31,8 @@ element-copy-out-expect-2 : tie.Need-element-copy-out-expect-2 Inv-loop μ-loop
 element-copy-out-expect-2 c = search needs
 
 expect-requires : tie.Need-expect-requires Inv-loop μ-loop
-expect-requires c κs = eq-eqb _ _ (ap (λ (l : List ℕ). getD l (c .before .before .before .loop .i) 0) (c .before .before .before .before .pre))
+expect-requires c κs = eq-eqb _ _
+    (ap (λ (l : List ℕ). getD l (c .before .before .before .loop .i) 0) (c .before .before .before .before .pre))
 
 add-i : tie.Need-add-i Inv-loop μ-loop
 add-i c = search needs

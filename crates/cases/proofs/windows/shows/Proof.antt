@@ -15,14 +15,18 @@ gillacorn-window-requires c κs = search needs
 
 expect-requires : tie.Need-expect-requires
 expect-requires c κs =
-    eq-eqb _ _ (ap (λ (x : PiecesAnswer). x .code) (c .before .before .gillacorn-window .ensures .0 ∙ c .before .before .before .before .before .pre .0))
+    eq-eqb _ _ (ap (λ (x : PiecesAnswer). x .code)
+    (c .before .before .gillacorn-window .ensures .0 ∙ c .before .before .before .before .before .pre .0))
 
 expect-requires-2 : tie.Need-expect-requires-2
 expect-requires-2 c κs =
-    eq-eqb _ _ (ap (λ (x : PiecesAnswer). x .pieces) (c .before .before .before .before .gillacorn-window .ensures .0 ∙ c .before .before .before .before .before .before .before .pre .0))
+    eq-eqb _ _ (ap (λ (x : PiecesAnswer). x .pieces)
+    (c .before .before .before .before .gillacorn-window .ensures .0
+    ∙ c .before .before .before .before .before .before .before .pre .0))
 
 same-requires : tie.Need-same-requires
-same-requires c κs = c .before .before .before .before .before .before .gillacorn-window .ensures .1 ∙ c .before .before .before .before .before .before .before .before .before .pre .1
+same-requires c κs = c .before .before .before .before .before .before .gillacorn-window .ensures .1
+    ∙ c .before .before .before .before .before .before .before .before .before .pre .1
 
 returns : tie.Need-returns
 returns c = search needs

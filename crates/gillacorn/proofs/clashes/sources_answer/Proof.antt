@@ -36,7 +36,8 @@ returns-3 : tie.Need-returns-3
 returns-3 c = sym (ap (λ (t : Back). sourcesAnswer (toldBack t)) (c .before .back2 .given .1))
 
 returns-4 : tie.Need-returns-4
-returns-4 c = rw (c .refusal-number .ensures) (sym (ap (λ (t : Back). sourcesAnswer (toldBack t)) (c .before .before .back3 .given .1)))
+returns-4 c = rw (c .refusal-number .ensures)
+    (sym (ap (λ (t : Back). sourcesAnswer (toldBack t)) (c .before .before .back3 .given .1)))
 
 returns-5 : tie.Need-returns-5
 returns-5 c = sym (ap (λ (t : Back). sourcesAnswer (toldBack t)) (c .enum-told2 .given .1))

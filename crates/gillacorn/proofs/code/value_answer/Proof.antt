@@ -30,7 +30,8 @@ returns-2 : tie.Need-returns-2
 returns-2 c = sym (ap (λ (t : Looked). valueAnswer (toldLooked t)) (c .enum-told .given .1))
 
 returns-3 : tie.Need-returns-3
-returns-3 c = rw (c .refusal-number .ensures) (sym (ap (λ (t : Looked). valueAnswer (toldLooked t)) (c .before .before .looked2 .given .1)))
+returns-3 c = rw (c .refusal-number .ensures)
+    (sym (ap (λ (t : Looked). valueAnswer (toldLooked t)) (c .before .before .looked2 .given .1)))
 
 returns-4 : tie.Need-returns-4
 returns-4 c = sym (ap (λ (t : Looked). valueAnswer (toldLooked t)) (c .enum-told2 .given .1))

@@ -20,7 +20,13 @@ program-of-requires : tie.Need-program-of-requires
 program-of-requires c κs = search needs
 
 returns : tie.Need-returns
-returns c = rw (c .before .before .before .before .type-of .ensures, c .before .before .before .has-stack .ensures, c .before .before .has-program .ensures, c .before .stack-of .ensures, c .program-of .ensures)
+returns c = rw (
+  c .before .before .before .before .type-of .ensures,
+  c .before .before .before .has-stack .ensures,
+  c .before .before .has-program .ensures,
+  c .before .stack-of .ensures,
+  c .program-of .ensures,
+)
 
 pub frame-shown-spec : {M : Type 1} → statement M
 frame-shown-spec =

@@ -36,16 +36,20 @@ no-frame-requires-3 : tie.Need-no-frame-requires-3
 no-frame-requires-3 c κs = search needs
 
 returns : tie.Need-returns
-returns c = rw (c .frame-shown .ensures) (sym (ap (λ (t : FrameStep). frameStepAnswer (toldStep t)) (c .before .before .step .given .1)))
+returns c = rw (c .frame-shown .ensures)
+    (sym (ap (λ (t : FrameStep). frameStepAnswer (toldStep t)) (c .before .before .step .given .1)))
 
 returns-2 : tie.Need-returns-2
-returns-2 c = rw (c .no-frame .ensures) (sym (ap (λ (t : FrameStep). frameStepAnswer (toldStep t)) (c .before .before .step2 .given .1)))
+returns-2 c = rw (c .no-frame .ensures)
+    (sym (ap (λ (t : FrameStep). frameStepAnswer (toldStep t)) (c .before .before .step2 .given .1)))
 
 returns-3 : tie.Need-returns-3
-returns-3 c = rw (c .no-frame2 .ensures, c .before .refusal-number .ensures) (sym (ap (λ (t : FrameStep). frameStepAnswer (toldStep t)) (c .before .before .before .step3 .given .1)))
+returns-3 c = rw (c .no-frame2 .ensures, c .before .refusal-number .ensures)
+    (sym (ap (λ (t : FrameStep). frameStepAnswer (toldStep t)) (c .before .before .before .step3 .given .1)))
 
 returns-4 : tie.Need-returns-4
-returns-4 c = rw (c .no-frame3 .ensures) (sym (ap (λ (t : FrameStep). frameStepAnswer (toldStep t)) (c .before .before .step4 .given .1)))
+returns-4 c = rw (c .no-frame3 .ensures)
+    (sym (ap (λ (t : FrameStep). frameStepAnswer (toldStep t)) (c .before .before .step4 .given .1)))
 
 pub frame-step-answer-spec : {M : Type 1} → statement M
 frame-step-answer-spec =

@@ -27,7 +27,8 @@ returns-2 : tie.Need-returns-2
 returns-2 c = sym (ap (λ (t : Emptiness). yesAnswer (toldEmptiness t)) (c .enum-told2 .given .1))
 
 returns-3 : tie.Need-returns-3
-returns-3 c = rw (c .refusal-number .ensures) (sym (ap (λ (t : Emptiness). yesAnswer (toldEmptiness t)) (c .before .before .emptiness .given .1)))
+returns-3 c = rw (c .refusal-number .ensures)
+    (sym (ap (λ (t : Emptiness). yesAnswer (toldEmptiness t)) (c .before .before .emptiness .given .1)))
 
 pub yes-answer-spec : {M : Type 1} → statement M
 yes-answer-spec =

@@ -27,7 +27,8 @@ returns-2 : tie.Need-returns-2
 returns-2 c = sym (ap (λ (t : Recorded). recordAnswer (toldRecorded t)) (c .enum-told .given .1))
 
 returns-3 : tie.Need-returns-3
-returns-3 c = rw (c .refusal-number .ensures) (sym (ap (λ (t : Recorded). recordAnswer (toldRecorded t)) (c .before .before .recorded2 .given .1)))
+returns-3 c = rw (c .refusal-number .ensures)
+    (sym (ap (λ (t : Recorded). recordAnswer (toldRecorded t)) (c .before .before .recorded2 .given .1)))
 
 pub record-answer-spec : {M : Type 1} → statement M
 record-answer-spec =

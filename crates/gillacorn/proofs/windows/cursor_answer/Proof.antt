@@ -21,7 +21,8 @@ returns : tie.Need-returns
 returns c = sym (ap (λ (t : Started). cursorAnswer (toldStarted t)) (c .before .started .given .1))
 
 returns-2 : tie.Need-returns-2
-returns-2 c = rw (c .refusal-number .ensures) (sym (ap (λ (t : Started). cursorAnswer (toldStarted t)) (c .before .before .started2 .given .1)))
+returns-2 c = rw (c .refusal-number .ensures)
+    (sym (ap (λ (t : Started). cursorAnswer (toldStarted t)) (c .before .before .started2 .given .1)))
 
 pub cursor-answer-spec : {M : Type 1} → statement M
 cursor-answer-spec =

@@ -27,7 +27,8 @@ returns : tie.Need-returns
 returns c = sym (ap (λ (t : Windowed). piecesAnswer (toldWindowed t)) (c .before .windowed .given .1))
 
 returns-2 : tie.Need-returns-2
-returns-2 c = rw (c .refusal-number .ensures) (sym (ap (λ (t : Windowed). piecesAnswer (toldWindowed t)) (c .before .before .windowed2 .given .1)))
+returns-2 c = rw (c .refusal-number .ensures)
+    (sym (ap (λ (t : Windowed). piecesAnswer (toldWindowed t)) (c .before .before .windowed2 .given .1)))
 
 returns-3 : tie.Need-returns-3
 returns-3 c = sym (ap (λ (t : Windowed). piecesAnswer (toldWindowed t)) (c .enum-told .given .1))

@@ -33,7 +33,8 @@ returns-2 : tie.Need-returns-2
 returns-2 c = sym (ap (λ (t : Step). stepAnswer (toldStep t)) (c .before .step2 .given .1))
 
 returns-3 : tie.Need-returns-3
-returns-3 c = rw (c .refusal-number .ensures) (sym (ap (λ (t : Step). stepAnswer (toldStep t)) (c .before .before .step3 .given .1)))
+returns-3 c = rw (c .refusal-number .ensures)
+    (sym (ap (λ (t : Step). stepAnswer (toldStep t)) (c .before .before .step3 .given .1)))
 
 returns-4 : tie.Need-returns-4
 returns-4 c = sym (ap (λ (t : Step). stepAnswer (toldStep t)) (c .before .step4 .given .1))

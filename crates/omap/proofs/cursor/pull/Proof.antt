@@ -36,7 +36,8 @@ turn-requires-2 c κs = search needs
 returns : tie.Need-returns
 returns c =
     let a = c .before .before .before .before .before .args in
-    c .turn .ensures ∙ rw (c .before .before .u32-at .ensures, c .before .u32-at2 .ensures) (ap turnedBy (sym (next-record (now (a .table)) (a .c) (omega arith))))
+    c .turn .ensures ∙ rw (c .before .before .u32-at .ensures, c .before .u32-at2 .ensures)
+    (ap turnedBy (sym (next-record (now (a .table)) (a .c) (omega arith))))
 
 returns-2 : tie.Need-returns-2
 returns-2 c =

@@ -21,7 +21,8 @@ enum-known-checked c = search needs
 returns : tie.Need-returns
 returns c =
     let a = c .before .before .before .before .before .args in
-    start-refused (now (a .table)) (a .a) (a .b) (number (c .before .checked .given .0 .0)) (sym (ap toldChecked (c .before .checked .given .1)) ∙ c .before .before .before .omap-check .ensures)
+    start-refused (now (a .table)) (a .a) (a .b) (number (c .before .checked .given .0 .0))
+    (sym (ap toldChecked (c .before .checked .given .1)) ∙ c .before .before .before .omap-check .ensures)
 
 enum-told : tie.Need-enum-told
 enum-told c = search needs
@@ -37,13 +38,18 @@ returns-2 c =
     start-empty (now (a .table)) (a .a) (a .b) (good g) (omega arith)
 
 first-above-requires : tie.Need-first-above-requires
-first-above-requires c κs = (omega arith, in-order (now (c .before .before .before .before .before .args .table)) (sym (good (c .before))))
+first-above-requires c κs = (
+  omega arith,
+  in-order (now (c .before .before .before .before .before .args .table))
+      (sym (good (c .before))),
+)
 
 returns-3 : tie.Need-returns-3
 returns-3 c =
     let g = c .before .before .before in
     let a = g .before .before .before .before .args in
-    start-before (now (a .table)) (a .a) (a .b) (good g) (omega arith) (subst (FirstAbove 8 (now (a .table)) (a .a)) (c .if2 .taken) (c .before .first-above .ensures))
+    start-before (now (a .table)) (a .a) (a .b) (good g) (omega arith)
+    (subst (FirstAbove 8 (now (a .table)) (a .a)) (c .if2 .taken) (c .before .first-above .ensures))
 
 sub-at : tie.Need-sub-at
 sub-at c = search needs
@@ -69,7 +75,8 @@ returns-4 c =
     let g = f .before .before .before in
     let a = g .before .before .before .before .args in
     rw (c .before .u32-at .ensures, c .u32-at2 .ensures)
-    (start-record (now (a .table)) (a .a) (a .b) (good g) (omega arith) (f .before .first-above .result) (omega (arith, f)) (f .before .first-above .ensures))
+    (start-record (now (a .table)) (a .a) (a .b) (good g) (omega arith) (f .before .first-above .result)
+    (omega (arith, f)) (f .before .first-above .ensures))
 
 pub start-in-spec : {M : Type 1} → statement M
 start-in-spec =

@@ -61,7 +61,8 @@ smaller-requires c κs = search needs
 returns : tie.Need-returns
 returns c =
     let f = c .before .before in
-    rw (f .smaller .ensures) (turn-skips (x f) (p f) (k f) (part-empty (x f) (p f) (k f) (omega (arith, f .smaller .ensures))))
+    rw (f .smaller .ensures) (turn-skips (x f) (p f) (k f)
+    (part-empty (x f) (p f) (k f) (omega (arith, f .smaller .ensures))))
 
 returns-2 : tie.Need-returns-2
 returns-2 c =
@@ -93,7 +94,11 @@ fits-requires : tie.Need-fits-requires
 fits-requires c κs = search needs
 
 cast-t18 : tie.Need-cast-t18
-cast-t18 c = let g = c .before .before in omega (arith, fits-shown (t (e g) .part) (sym (fit g) ∙ c .before .if4 .taken) .0)
+cast-t18 c = let g = c .before .before in omega (
+  arith,
+  fits-shown (t (e g) .part)
+      (sym (fit g) ∙ c .before .if4 .taken) .0,
+)
 
 beside-start-requires : tie.Need-beside-start-requires
 beside-start-requires c κs = search needs

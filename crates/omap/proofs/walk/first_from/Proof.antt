@@ -19,7 +19,8 @@ sub-result c = search needs
 returns-2 : tie.Need-returns-2
 returns-2 c =
     let a = c .before .before .before .args in
-    begins-before (now (a .table)) (a .a) (c .before .first-above .result) (c .before .first-above .ensures) (omega (arith, c))
+    begins-before (now (a .table)) (a .a) (c .before .first-above .result) (c .before .first-above .ensures)
+    (omega (arith, c))
 
 pub first-from-spec : {M : Type 1} → statement M
 first-from-spec = tie.close (tie.spec first-above-requires returns sub-result returns-2)

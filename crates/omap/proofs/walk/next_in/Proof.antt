@@ -110,8 +110,10 @@ returns c =
     let e = c .before in
     let l = at e in
     rw (e .before .before .u32-at2 .ensures, e .before .before .before .before .u32-at .ensures)
-    (walk-found (s l) (a l) (b l) (j l) (here l (omega arith)) (st l .args .i) (l .loop .inv .1) (lo e) (hi e) (lo-is e) (e .end-in .ensures) (omega arith)
-    (λ z. e .before .before .before .if1 .taken (omega arith)) (l .before .shared-slice-known .given) (l .loop .inv .0) (omega arith) (omega arith))
+    (walk-found (s l) (a l) (b l) (j l) (here l (omega arith)) (st l .args .i) (l .loop .inv .1) (lo e) (hi e) (lo-is e)
+    (e .end-in .ensures) (omega arith)
+    (λ z. e .before .before .before .if1 .taken (omega arith)) (l .before .shared-slice-known .given) (l .loop .inv .0)
+    (omega arith) (omega arith))
 
 loop-less : tie.Need-loop-less Inv-loop μ-loop
 loop-less c = omega arith
@@ -119,16 +121,22 @@ loop-less c = omega arith
 loop-again : tie.Need-loop-again Inv-loop μ-loop
 loop-again c =
     let e = c .before in
-    let l = at e in
-    (omega arith, walk-empty (s l) (a l) (b l) (j l) (here l (omega arith)) (st l .args .i) (l .loop .inv .1) (lo e) (hi e) (lo-is e) (e .end-in .ensures) (omega arith))
+    let l = at e in (
+      omega arith,
+      walk-empty (s l) (a l) (b l) (j l) (here l (omega arith)) (st l .args .i) (l .loop .inv .1) (lo e)
+          (hi e) (lo-is e) (e .end-in .ensures) (omega arith),
+    )
 
 loop-less-2 : tie.Need-loop-less-2 Inv-loop μ-loop
 loop-less-2 c = omega arith
 
 loop-again-2 : tie.Need-loop-again-2 Inv-loop μ-loop
 loop-again-2 c =
-    let l = c .before .before .before in
-    (omega arith, walk-zero (s l) (a l) (b l) (j l) (here l (omega arith)) (st l .args .i) (l .loop .inv .1) (omega arith))
+    let l = c .before .before .before in (
+      omega arith,
+      walk-zero (s l) (a l) (b l) (j l) (here l (omega arith)) (st l .args .i) (l .loop .inv .1)
+          (omega arith),
+    )
 
 returns-2 : tie.Need-returns-2 Inv-loop μ-loop
 returns-2 c =

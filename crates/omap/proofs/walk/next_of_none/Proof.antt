@@ -22,7 +22,8 @@ cast-t8 : tie.Need-cast-t8
 cast-t8 c = search needs
 
 returns-4 : tie.Need-returns-4
-returns-4 c = λ s. let a = c .before .before .before .args in absent-found s (a .a) (a .b) (a .i) (omega arith) (c .before .if2 .left) (omega arith) (omega arith)
+returns-4 c = λ s. let a = c .before .before .before .args in absent-found s (a .a) (a .b) (a .i) (omega arith)
+    (c .before .if2 .left) (omega arith) (omega arith)
 
 pub next-of-none-spec : {M : Type 1} → statement M
 next-of-none-spec = tie.close (tie.spec returns returns-2 returns-3 sub-t7 cast-t8 returns-4)

@@ -21,7 +21,8 @@ returns : tie.Need-returns
 returns c =
     let st = c .before .before .before .before in
     let o = present-order (st .args .present) (now (st .args .table)) (c .before .before .if1 .taken) (st .pre) in
-    rw (c .before .before .if1 .taken) (record { all = c .before .first-from .ensures (st .args .b); bounded = (o, c .below .ensures) })
+    rw (c .before .before .if1 .taken)
+    (record { all = c .before .first-from .ensures (st .args .b); bounded = (o, c .below .ensures) })
 
 returns-2 : tie.Need-returns-2
 returns-2 c = rw (c .if1 .left) (record { all = refl; bounded = tt })

@@ -26,11 +26,13 @@ enum-told : tie.Need-enum-told
 enum-told c = search needs
 
 -- past the check the table gives no refusal
-good : (c : tie.After-enum-told) → none ≡ markedFault (c .before .before .before .before .args .present) (now (c .before .before .before .before .args .table))
+good : (c : tie.After-enum-told) → none ≡ markedFault (c .before .before .before .before .args .present)
+    (now (c .before .before .before .before .args .table))
 good c = sym (ap toldChecked (c .enum-told .given .1)) ∙ c .before .before .marked-check .ensures
 
 count-pieces-requires : tie.Need-count-pieces-requires
-count-pieces-requires c κs = let a = c .before .before .before .before .args in checked-order (a .present) (now (a .table)) (good c)
+count-pieces-requires c κs = let a = c .before .before .before .before .args in checked-order (a .present)
+    (now (a .table)) (good c)
 
 returns-2 : tie.Need-returns-2
 returns-2 c =

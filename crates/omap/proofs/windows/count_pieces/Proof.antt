@@ -51,10 +51,13 @@ module _ (c : tie.After-known-told Inv-loop μ-loop) where
   after = c .before .next .given .0 .1 .0
 
   found : Found (here at) (s at) (a at) (b at) (at .loop .i) piece after
-  found = was-found (here at) (s at) (a at) (b at) (at .loop .i) (c .before .before .before .next-piece .ensures) piece after (c .before .next .given .1)
+  found = was-found (here at) (s at) (a at) (b at) (at .loop .i)
+      (c .before .before .before .next-piece .ensures) piece after (c .before .next .given .1)
 
-  fewer : length (left (here at) (s at) (a at) (b at) after) < length (left (here at) (s at) (a at) (b at) (at .loop .i))
-  fewer = nearer (here at) (s at) (a at) (b at) (at .loop .i) (c .before .before .before .next-piece .ensures) piece after (c .before .next .given .1)
+  fewer : length (left (here at) (s at) (a at) (b at) after) < length
+      (left (here at) (s at) (a at) (b at) (at .loop .i))
+  fewer = nearer (here at) (s at) (a at) (b at) (at .loop .i)
+      (c .before .before .before .next-piece .ensures) piece after (c .before .next .given .1)
 
 span-of-requires : tie.Need-span-of-requires Inv-loop μ-loop
 span-of-requires c κs = c .before .pre
@@ -83,14 +86,16 @@ loop-again : tie.Need-loop-again Inv-loop μ-loop
 loop-again c =
     let q = c .before .before in
     let l = at q in
-    counting-more (here l) (s l) (a l) (b l) (l .loop .i) (l .loop .count) (l .loop .inv) (piece q) (after q) (found q) (sym (c .before .fits2 .ensures) ∙ c .if1 .taken)
+    counting-more (here l) (s l) (a l) (b l) (l .loop .i) (l .loop .count) (l .loop .inv) (piece q) (after q) (found q)
+    (sym (c .before .fits2 .ensures) ∙ c .if1 .taken)
 
 returns : tie.Need-returns Inv-loop μ-loop
 returns c =
     let q = c .before .before in
     let l = at q in
     tally-large (windowPieces (here l) (s l) (a l) (b l))
-    (counting-not (here l) (s l) (a l) (b l) (l .loop .i) (l .loop .count) (l .loop .inv) (piece q) (after q) (found q) (sym (c .before .fits2 .ensures) ∙ c .if1 .left))
+    (counting-not (here l) (s l) (a l) (b l) (l .loop .i) (l .loop .count) (l .loop .inv) (piece q) (after q) (found q)
+    (sym (c .before .fits2 .ensures) ∙ c .if1 .left))
 
 enum-told : tie.Need-enum-told Inv-loop μ-loop
 enum-told c = search needs
@@ -99,7 +104,8 @@ returns-2 : tie.Need-returns-2 Inv-loop μ-loop
 returns-2 c =
     let l = c .before .before .before in
     let e = counting-last (here l) (s l) (a l) (b l) (l .loop .i) (l .loop .count) (l .loop .inv)
-    (was-end (here l) (s l) (a l) (b l) (l .loop .i) (c .before .before .next-piece .ensures) (c .enum-told .given .1)) in
+    (was-end (here l) (s l) (a l) (b l) (l .loop .i) (c .before .before .next-piece .ensures)
+    (c .enum-told .given .1)) in
     tally-pieces (windowPieces (here l) (s l) (a l) (b l)) (e .0) (l .loop .count) (e .1)
 
 pub count-pieces-spec : {M : Type 1} → statement M

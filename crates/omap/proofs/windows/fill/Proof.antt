@@ -50,16 +50,21 @@ module _ (c : tie.After-known-told Inv-loop μ-loop) where
   after = c .before .next .given .0 .1 .0
 
   found : Found (here at) (s at) (a at) (b at) (at .loop .i) piece after
-  found = was-found (here at) (s at) (a at) (b at) (at .loop .i) (c .before .before .before .next-piece .ensures) piece after (c .before .next .given .1)
+  found = was-found (here at) (s at) (a at) (b at) (at .loop .i)
+      (c .before .before .before .next-piece .ensures) piece after (c .before .next .given .1)
 
-  fewer : length (left (here at) (s at) (a at) (b at) after) < length (left (here at) (s at) (a at) (b at) (at .loop .i))
-  fewer = nearer (here at) (s at) (a at) (b at) (at .loop .i) (c .before .before .before .next-piece .ensures) piece after (c .before .next .given .1)
+  fewer : length (left (here at) (s at) (a at) (b at) after) < length
+      (left (here at) (s at) (a at) (b at) (at .loop .i))
+  fewer = nearer (here at) (s at) (a at) (b at) (at .loop .i)
+      (c .before .before .before .next-piece .ensures) piece after (c .before .next .given .1)
 
   sized : (piece .to ≤ 4294967295) × (besideStart piece ≤ 4294967295)
-  sized = shown (here at) (s at) (a at) (b at) (now (st at .args .out)) (at .loop .out) (at .loop .i) (at .loop .k) (at .loop .inv) piece after found
+  sized = shown (here at) (s at) (a at) (b at) (now (st at .args .out)) (at .loop .out) (at .loop .i) (at .loop .k)
+      (at .loop .inv) piece after found
 
   room : at .loop .k + 2 ≤ length (at .loop .out)
-  room = room-here (here at) (s at) (a at) (b at) (now (st at .args .out)) (at .loop .out) (at .loop .i) (at .loop .k) (at .loop .inv) piece after found
+  room = room-here (here at) (s at) (a at) (b at) (now (st at .args .out)) (at .loop .out) (at .loop .i) (at .loop .k)
+      (at .loop .inv) piece after found
 
 span-of-requires : tie.Need-span-of-requires Inv-loop μ-loop
 span-of-requires c κs = c .before .before .pre .0
@@ -68,7 +73,8 @@ loop-holds : tie.Need-loop-holds Inv-loop μ-loop
 loop-holds c =
     let st = c .before .before .before in
     let a = st .args in
-    filling-first (a .present) (now (a .table)) (a .a) (a .b) (now (a .out)) (c .span-of .result .first) (c .span-of .ensures .all) (st .pre .1 .0) (st .pre .1 .1)
+    filling-first (a .present) (now (a .table)) (a .a) (a .b) (now (a .out)) (c .span-of .result .first)
+    (c .span-of .ensures .all) (st .pre .1 .0) (st .pre .1 .1)
 
 next-piece-requires : tie.Need-next-piece-requires Inv-loop μ-loop
 next-piece-requires c κs = c .before .span-of .ensures .bounded
@@ -111,7 +117,8 @@ loop-again c =
     let q = c .before .before in
     let l = at q in
     rw (c .beside-start .ensures)
-    (filling-more (here l) (s l) (a l) (b l) (now (st l .args .out)) (l .loop .out) (l .loop .i) (l .loop .k) (l .loop .inv) (piece q) (after q) (found q))
+    (filling-more (here l) (s l) (a l) (b l) (now (st l .args .out)) (l .loop .out) (l .loop .i) (l .loop .k)
+    (l .loop .inv) (piece q) (after q) (found q))
 
 enum-told : tie.Need-enum-told Inv-loop μ-loop
 enum-told c = search needs
@@ -122,7 +129,8 @@ same-length c = c .before .before .before .loop .inv .kept
 returns : tie.Need-returns Inv-loop μ-loop
 returns c =
     let l = c .before .before .before in
-    filling-last (here l) (s l) (a l) (b l) (now (st l .args .out)) (l .loop .out) (l .loop .i) (l .loop .k) (l .loop .inv)
+    filling-last (here l) (s l) (a l) (b l) (now (st l .args .out)) (l .loop .out) (l .loop .i) (l .loop .k)
+    (l .loop .inv)
     (was-end (here l) (s l) (a l) (b l) (l .loop .i) (c .before .before .next-piece .ensures) (c .enum-told .given .1))
 
 pub fill-spec : {M : Type 1} → statement M

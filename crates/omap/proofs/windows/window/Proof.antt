@@ -9,7 +9,8 @@ use denote.Ref.{now}
 use Rattle.lent.specs.Paper.{number}
 use Rattle.omap.specs.Window.{windowPieces}
 use Rattle.omap.specs.Output.{counted, refusedAs, refusedFor, toldCounted}
-use Rattle.omap.proofs.Outputs.{Counts, was-counted, was-refused, length-flat, answer-refused, answer-short, answer-pieces, answered}
+use Rattle.omap.proofs.Outputs.{Counts, was-counted, was-refused, length-flat, answer-refused, answer-short}
+use Rattle.omap.proofs.Outputs.{answer-pieces, answered}
 use borrow.Author.Needs.{needs}
 use Rattle.omap.proofs.windows.window.Statement.{statement}
 use Rattle.omap.proofs.windows.window.Tie as tie
@@ -42,23 +43,37 @@ enum-known-counted-2 c = search needs
 fill-requires : tie.Need-fill-requires
 fill-requires c κs =
     let k = c .before .before in
-    let a = start k .args in
-    (counts k .order, (counts k .fit, omega (arith, counts k .number, length-flat (windowPieces (a .present) (now (a .table)) (a .a) (a .b)))))
+    let a = start k .args in (
+      counts k .order,
+      (
+        counts k .fit,
+        omega (
+          arith,
+          counts k .number,
+          length-flat
+              (windowPieces (a .present) (now (a .table)) (a .a) (a .b)),
+        ),
+      ),
+    )
 
 returns : tie.Need-returns
 returns c =
     let a = c .before .before .before .before .before .before .args in
     let s = now (a .table) in
     let why = number (c .before .counted .given .0 .0) in
-    let e = was-refused (a .present) s (a .a) (a .b) why (sym (ap toldCounted (c .before .counted .given .1)) ∙ c .before .before .before .count .ensures) in
-    answered (a .present) s (a .a) (a .b) (now (a .out)) (refusedAs why) (answer-refused (a .present) s (a .a) (a .b) (length (now (a .out)) / 2) why e) (now (a .out)) refl
+    let e = was-refused (a .present) s (a .a) (a .b) why
+    (sym (ap toldCounted (c .before .counted .given .1)) ∙ c .before .before .before .count .ensures) in
+    answered (a .present) s (a .a) (a .b) (now (a .out)) (refusedAs why)
+    (answer-refused (a .present) s (a .a) (a .b) (length (now (a .out)) / 2) why e) (now (a .out)) refl
 
 returns-2 : tie.Need-returns-2
 returns-2 c =
     let a = c .before .before .before .before .before .args in
     let s = now (a .table) in
-    let e = was-refused (a .present) s (a .a) (a .b) 4 (sym (ap toldCounted (c .enum-told .given .1)) ∙ c .before .before .count .ensures) in
-    answered (a .present) s (a .a) (a .b) (now (a .out)) (refusedAs 4) (answer-refused (a .present) s (a .a) (a .b) (length (now (a .out)) / 2) 4 e) (now (a .out)) refl
+    let e = was-refused (a .present) s (a .a) (a .b) 4
+    (sym (ap toldCounted (c .enum-told .given .1)) ∙ c .before .before .count .ensures) in
+    answered (a .present) s (a .a) (a .b) (now (a .out)) (refusedAs 4)
+    (answer-refused (a .present) s (a .a) (a .b) (length (now (a .out)) / 2) 4 e) (now (a .out)) refl
 
 same-length : tie.Need-same-length
 same-length c = search needs
@@ -69,7 +84,8 @@ returns-3 c =
     let a = start k .args in
     let s = now (a .table) in
     answered (a .present) s (a .a) (a .b) (now (a .out)) (counted (n k))
-    (answer-pieces (a .present) s (a .a) (a .b) (length (now (a .out)) / 2) (n k) (counts k) (omega arith)) (c .before .before .fill .last .1 .1 .1 .1 .0) (c .before .before .fill .ensures)
+    (answer-pieces (a .present) s (a .a) (a .b) (length (now (a .out)) / 2) (n k) (counts k) (omega arith))
+    (c .before .before .fill .last .1 .1 .1 .1 .0) (c .before .before .fill .ensures)
 
 returns-4 : tie.Need-returns-4
 returns-4 c =
@@ -77,7 +93,8 @@ returns-4 c =
     let a = start k .args in
     let s = now (a .table) in
     answered (a .present) s (a .a) (a .b) (now (a .out)) (refusedFor 5 (n k))
-    (answer-short (a .present) s (a .a) (a .b) (length (now (a .out)) / 2) (n k) (counts k) (omega arith)) (now (a .out)) refl
+    (answer-short (a .present) s (a .a) (a .b) (length (now (a .out)) / 2) (n k) (counts k) (omega arith))
+    (now (a .out)) refl
 
 pub window-spec : {M : Type 1} → statement M
 window-spec =

@@ -17,7 +17,8 @@ use Rattle.omap.proofs.cursor.Cursor.step.Statement.{statement}
 use Rattle.omap.proofs.cursor.Cursor.step.Tie as tie
 
 abbrev Inv-loop : tie.InvT-loop
-Inv-loop self₀ present table from records self = stepSpec present table self₀ ≡ walk self₀ (rest records (self .place)) self
+Inv-loop self₀ present table from records self = stepSpec present table self₀ ≡ walk self₀
+    (rest records (self .place)) self
 
 abbrev μ-loop : tie.MeasureT-loop
 μ-loop self₀ present table from records self = (length records / 8 - self .place) + min 1 (self .end - self .address)
@@ -35,7 +36,8 @@ returns : tie.Need-returns Inv-loop μ-loop
 returns c =
     let a = c .before .before .before .before .before .before .args in
     let h = c .before .before .before .before .if-present in
-    step-refused (a .present) (now (a .table)) (now (h .result)) (a .self) (h .ensures) (number (c .before .shaped .given .0 .0))
+    step-refused (a .present) (now (a .table)) (now (h .result)) (a .self) (h .ensures)
+    (number (c .before .shaped .given .0 .0))
     (sym (ap toldChecked (c .before .shaped .given .1)) ∙ c .before .before .before .omap-shape .ensures)
 
 enum-told : tie.Need-enum-told Inv-loop μ-loop
@@ -60,8 +62,10 @@ returns-2 c =
     let a = l .before .before .before .before .before .before .args in
     let k = l .loop .self in
     let v = c .before .turned .given .0 in
-    sym (l .loop .inv ∙ walk-ends (rest (now (l .before .before .before .before .if-present .result)) (k .place)) (a .self) k (omega arith) (Piece (v .0) (v .1 .0) (v .1 .1 .0))
-    (sym (c .before .turned .given .1) ∙ c .before .before .before .pull .ensures) (piece (v .1 .0) (v .1 .1 .0) (v .0)) (λ on. refl))
+    sym (l .loop .inv ∙ walk-ends (rest (now (l .before .before .before .before .if-present .result)) (k .place))
+    (a .self) k (omega arith) (Piece (v .0) (v .1 .0) (v .1 .1 .0))
+    (sym (c .before .turned .given .1) ∙ c .before .before .before .pull .ensures) (piece (v .1 .0) (v .1 .1 .0) (v .0))
+    (λ on. refl))
 
 enum-known-turned-2 : tie.Need-enum-known-turned-2 Inv-loop μ-loop
 enum-known-turned-2 c = search needs
@@ -74,9 +78,11 @@ module _ (c : tie.After-known-told3 Inv-loop μ-loop) where
   abbrev h : List ℕ
   h = now (at .before .before .before .before .if-present .result)
 
-  on : Onward h (at .before .before .before .before .before .before .args .self) (at .loop .self) (c .before .turned2 .given .0 .0)
+  on : Onward h (at .before .before .before .before .before .before .args .self) (at .loop .self)
+      (c .before .turned2 .given .0 .0)
   on =
-      skipped h (at .before .before .before .before .before .before .args .self) (at .loop .self) (c .before .turned2 .given .0 .0) (omega arith)
+      skipped h (at .before .before .before .before .before .before .args .self) (at .loop .self)
+      (c .before .turned2 .given .0 .0) (omega arith)
       (sym (c .before .turned2 .given .1) ∙ c .before .before .before .pull .ensures)
 
 loop-less : tie.Need-loop-less Inv-loop μ-loop
@@ -93,7 +99,8 @@ returns-3 c =
     let l = c .before .before .before .before .before in
     let a = l .before .before .before .before .before .before .args in
     let k = l .loop .self in
-    sym (l .loop .inv ∙ walk-ends (rest (now (l .before .before .before .before .if-present .result)) (k .place)) (a .self) k (omega arith) Early
+    sym (l .loop .inv ∙ walk-ends (rest (now (l .before .before .before .before .if-present .result)) (k .place))
+    (a .self) k (omega arith) Early
     (sym (c .enum-told2 .given .1) ∙ c .before .before .pull .ensures) (refusedAt 6 (a .self)) (λ on. refl))
 
 enum-told-3 : tie.Need-enum-told-3 Inv-loop μ-loop
@@ -104,14 +111,16 @@ returns-4 c =
     let l = c .before .before .before .before .before in
     let a = l .before .before .before .before .before .before .args in
     let k = l .loop .self in
-    sym (l .loop .inv ∙ walk-ends (rest (now (l .before .before .before .before .if-present .result)) (k .place)) (a .self) k (omega arith) TooLarge
+    sym (l .loop .inv ∙ walk-ends (rest (now (l .before .before .before .before .if-present .result)) (k .place))
+    (a .self) k (omega arith) TooLarge
     (sym (c .enum-told3 .given .1) ∙ c .before .before .pull .ensures) (refusedAt 4 (a .self)) (λ on. refl))
 
 returns-5 : tie.Need-returns-5 Inv-loop μ-loop
 returns-5 c =
     let l = c .before .before in
     let a = l .before .before .before .before .before .before .args in
-    sym (l .loop .inv ∙ walk-done (rest (now (l .before .before .before .before .if-present .result)) (l .loop .self .place)) (a .self) (l .loop .self) (omega arith))
+    sym (l .loop .inv ∙ walk-done (rest (now (l .before .before .before .before .if-present .result))
+    (l .loop .self .place)) (a .self) (l .loop .self) (omega arith))
 
 pub step-spec : {M : Type 1} → statement M
 step-spec =
