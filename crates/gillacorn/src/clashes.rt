@@ -43,7 +43,7 @@ fn pair_answer(clashed: Clashed) -> PairAnswer
             second: 0,
         },
         Clashed::TooLarge => PairAnswer {
-            code: 4,
+            code: lent::TOO_LARGE,
             first: 0,
             second: 0,
         },
@@ -79,7 +79,7 @@ fn sources_answer(back: Back) -> SourcesAnswer
             second: 0,
         },
         Back::TooLarge => SourcesAnswer {
-            code: 4,
+            code: lent::TOO_LARGE,
             sources: 0,
             first: 0,
             second: 0,

@@ -171,7 +171,7 @@ fn frame_answer(framed: Framed) -> FrameAnswer
             frame: no_frame(),
         },
         Framed::TooLarge => FrameAnswer {
-            code: 4,
+            code: lent::TOO_LARGE,
             frame: no_frame(),
         },
     }
@@ -197,7 +197,7 @@ fn frame_step_answer(step: FrameStep) -> FrameStepAnswer
             cursor,
         },
         FrameStep::TooLarge(cursor) => FrameStepAnswer {
-            code: 4,
+            code: lent::TOO_LARGE,
             frame: no_frame(),
             cursor,
         },
