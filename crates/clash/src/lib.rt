@@ -2,8 +2,9 @@
 ghost use mathlib.Core.Path.{_≡_};
 ghost use mathlib.Core.Bool.{true};
 ghost use mathlib.Core.List.{List, _∷_, _++_};
-ghost use Prim.Native.Nat.{ℕ, _+_, _-_, _≤_, _<_};
+ghost use Prim.Native.Nat.{ℕ, _+_, _-_, _*_, _≤_, _<_};
 ghost use Rattle.lent.specs.Order.{rising, keys};
+ghost use Rattle.lent.specs.Le.{leAt};
 ghost use Rattle.lent.specs.Paper.{value};
 ghost use Rattle.lent.specs.Words.{put};
 ghost use Rattle.omap.specs.Records.{records, rest};
@@ -69,16 +70,12 @@ fn source_of(piece: Piece, target: u64) -> u32
     (piece.at + (target - piece.to)) as u32
 }
 
-// The best of what is found so far and of what record i takes below b to the targets from `from` on.
-// A record costs one comparison if its target is not below what is found already.
-fn better(table: &[u8], i: usize, last: usize, b: u32, from: u64, best: Best) -> Best
-    requires { ⌜ (rising (keys 8 (now table)) ≡ true) × ((Below (now table) b last) × ((i < last) × ((from < best .target) × (best .target ≤ 12884901888)))) ⌝ }
+// The best of what is found so far and of what record i, whose target is below that, takes below b to the targets from
+// `from` on.
+fn better(table: &[u8], i: usize, last: usize, b: u32, from: u64, target: u64, best: Best) -> Best
+    requires { ⌜ (rising (keys 8 (now table)) ≡ true) × ((Below (now table) b last) × ((i < last) × ((from < best .target) × ((target ≡ leAt 4 (now table) (8 * i + 4)) × (target < best .target))))) ⌝ }
     ensures { λ r. ⌜ Better (now (table .entry)) b i from best r ⌝ }
 {
-    let target = lent::u32_at(table, lent::OMAP * i + 4) as u64;
-    if best.target <= target {
-        return best;
-    }
     if target == 0 {
         return best;
     }
@@ -97,6 +94,7 @@ fn better(table: &[u8], i: usize, last: usize, b: u32, from: u64, best: Best) ->
 }
 
 // The first of the targets of a piece to which a record from place `start` on takes an address below b.
+// A record costs one load and one comparison if its target is not below what is found already.
 fn first_shared(table: &[u8], start: usize, last: usize, b: u32, piece: Piece) -> Shared
     requires { ⌜ (rising (keys 8 (now table)) ≡ true) × ((Below (now table) b last) × ((0 < piece .size) × Small piece)) ⌝ }
     ensures { λ r. ⌜ toldShared r ≡ firstShared (pieces 0 b (rest (now (table .entry)) start)) (piece .to) (piece .size) ⌝ }
@@ -111,12 +109,15 @@ fn first_shared(table: &[u8], start: usize, last: usize, b: u32, piece: Piece) -
     while j < last {
         let i = j;
         j += 1;
-        best = better(table, i, last, b, from, best);
-        if best.target <= from {
-            return Shared::At {
-                target: from,
-                source: best.source,
-            };
+        let target = lent::u32_at(table, lent::OMAP * i + 4) as u64;
+        if target < best.target {
+            best = better(table, i, last, b, from, target, best);
+            if best.target <= from {
+                return Shared::At {
+                    target: from,
+                    source: best.source,
+                };
+            }
         }
     }
     if best.target < end {

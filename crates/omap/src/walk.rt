@@ -90,10 +90,10 @@ pub fn end_in(table: &[u8], i: usize, last: usize, b: u32) -> u32
     requires { ⌜ (i < last) × Below (now table) b last ⌝ }
     ensures { λ r. ⌜ r ≡ min b (nextOf (rest (now (table .entry)) (i + 1))) ⌝ }
 {
-    if i + 1 < last {
-        lent::u32_at(table, lent::OMAP * (i + 1))
-    } else {
+    if last <= i + 1 {
         b
+    } else {
+        lent::u32_at(table, lent::OMAP * (i + 1))
     }
 }
 

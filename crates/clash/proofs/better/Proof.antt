@@ -1,13 +1,13 @@
 -- `clash::better` meets its contract: each answer by the tests that led there.
 -- Assumes nothing.
-use Prim.Native.Nat.{ℕ}
+use Prim.Native.Nat.{ℕ, _+_, _*_}
 use mathlib.Core.List.{List}
 use native.Mathlib.Omega.{arith}
 use denote.Ref.{now}
-use Rattle.lent.proofs.Field.{Bytes}
+use Rattle.lent.proofs.Field.{Bytes, below}
 use Rattle.omap.proofs.Last.{src}
 use Rattle.omap.proofs.Walking.{tgt}
-use Rattle.clash.proofs.Later.{some-part, pass-zero, pass-high, pass-low, hit-first, hit-later}
+use Rattle.clash.proofs.Later.{some-part, pass-zero, pass-low, hit-first, hit-later}
 use borrow.Author.Needs.{needs}
 use Rattle.clash.proofs.better.Statement.{statement}
 use Rattle.clash.proofs.better.Tie as tie
@@ -32,45 +32,27 @@ module _ (k : tie.After-shared-slice-known) where
   abbrev bytes : Bytes s
   bytes = k .shared-slice-known .given
 
-mul-u32-at : tie.Need-mul-u32-at
-mul-u32-at c = search needs
-
-add-u32-at : tie.Need-add-u32-at
-add-u32-at c = search needs
-
-u32-at-requires : tie.Need-u32-at-requires
-u32-at-requires c κs = search needs
-
-cast-target : tie.Need-cast-target
-cast-target c = search needs
-
 returns : tie.Need-returns
 returns c =
-    let k = c .before .before .before in
-    pass-high (s k) (b k) (last k) (st k .pre .1 .0) (st k .pre .0) (bytes k) (i k) (st k .pre .1 .1 .0)
-    (st k .args .from) (st k .args .best) (omega arith) (omega arith) (omega arith)
-
-returns-2 : tie.Need-returns-2
-returns-2 c =
-    let k = c .before .before .before .before in
+    let k = c .before in
     pass-zero (s k) (b k) (last k) (st k .pre .1 .0) (st k .pre .0) (bytes k) (i k) (st k .pre .1 .1 .0)
     (st k .args .from) (st k .args .best) (omega arith) (omega arith)
 
-mul-u32-at-2 : tie.Need-mul-u32-at-2
-mul-u32-at-2 c = search needs
+mul-u32-at : tie.Need-mul-u32-at
+mul-u32-at c = search needs
 
-u32-at-requires-2 : tie.Need-u32-at-requires-2
-u32-at-requires-2 c κs = search needs
+u32-at-requires : tie.Need-u32-at-requires
+u32-at-requires c κs = search needs
 
 end-in-requires : tie.Need-end-in-requires
 end-in-requires c κs = search needs
 
 sub-size : tie.Need-sub-size
 sub-size c =
-    let k = c .before .before .before .before .before .before in
+    let k = c .before .before .before in
     omega (
       arith,
-      c .before .u32-at2 .ensures,
+      c .before .u32-at .ensures,
       c .end-in .ensures,
       some-part (s k) (b k) (last k) (st k .pre .1 .0)
           (st k .pre .0) (bytes k) (i k) (st k .pre .1 .1 .0),
@@ -79,39 +61,41 @@ sub-size c =
 cast-size : tie.Need-cast-size
 cast-size c = search needs
 
-add-if3 : tie.Need-add-if3
-add-if3 c = search needs
+add-if2 : tie.Need-add-if2
+add-if2 c =
+    let k = c .before .before .before in
+    omega (arith, below 4 (s k) (8 * i k + 4) (bytes k))
+
+returns-2 : tie.Need-returns-2
+returns-2 c =
+    let k = c .before .before .before .before in
+    pass-low (s k) (b k) (last k) (st k .pre .1 .0) (st k .pre .0) (bytes k) (i k) (st k .pre .1 .1 .0)
+    (st k .args .from) (st k .args .best) (omega arith) (omega arith)
+    (omega (arith, c .before .end-in .ensures, c .before .before .u32-at .ensures))
+
+cast-t15 : tie.Need-cast-t15
+cast-t15 c = search needs
+
+add-t17 : tie.Need-add-t17
+add-t17 c = search needs
+
+cast-t18 : tie.Need-cast-t18
+cast-t18 c = search needs
 
 returns-3 : tie.Need-returns-3
 returns-3 c =
-    let k = c .before .before .before .before .before .before .before in
-    pass-low (s k) (b k) (last k) (st k .pre .1 .0) (st k .pre .0) (bytes k) (i k) (st k .pre .1 .1 .0)
-    (st k .args .from) (st k .args .best) (omega arith) (omega arith)
-    (omega (arith, c .before .end-in .ensures, c .before .before .u32-at2 .ensures))
-
-cast-t16 : tie.Need-cast-t16
-cast-t16 c = search needs
-
-add-t18 : tie.Need-add-t18
-add-t18 c = search needs
-
-cast-t19 : tie.Need-cast-t19
-cast-t19 c = search needs
+    let e = c .before .before in
+    let k = e .before .before .before in
+    rw (e .before .u32-at .ensures, st k .pre .1 .1 .1 .1 .0)
+    (hit-first (s k) (b k) (last k) (st k .pre .1 .0) (st k .pre .0) (bytes k) (i k) (st k .pre .1 .1 .0)
+    (st k .args .from) (st k .args .best) (omega arith) (omega arith) (omega arith)
+    (omega (arith, e .end-in .ensures, e .before .u32-at .ensures)))
 
 returns-4 : tie.Need-returns-4
 returns-4 c =
     let e = c .before .before in
-    let k = e .before .before .before .before .before .before in
-    rw (e .before .u32-at2 .ensures, e .before .before .before .before .before .u32-at .ensures)
-    (hit-first (s k) (b k) (last k) (st k .pre .1 .0) (st k .pre .0) (bytes k) (i k) (st k .pre .1 .1 .0)
-    (st k .args .from) (st k .args .best) (omega arith) (omega arith) (omega arith)
-    (omega (arith, e .end-in .ensures, e .before .u32-at2 .ensures)))
-
-returns-5 : tie.Need-returns-5
-returns-5 c =
-    let e = c .before .before in
-    let k = e .before .before .before .before .before .before in
-    rw (e .before .u32-at2 .ensures, e .before .before .before .before .before .u32-at .ensures)
+    let k = e .before .before .before in
+    rw (e .before .u32-at .ensures, st k .pre .1 .1 .1 .1 .0)
     (hit-later (s k) (b k) (last k) (st k .pre .1 .0) (st k .pre .0) (bytes k) (i k) (st k .pre .1 .1 .0)
     (st k .args .from) (st k .args .best) (omega arith) (omega arith) (omega arith) (omega arith))
 
@@ -119,21 +103,16 @@ pub better-spec : {M : Type 1} → statement M
 better-spec =
     tie.close
     (tie.spec
-    mul-u32-at
-    add-u32-at
-    u32-at-requires
-    cast-target
     returns
-    returns-2
-    mul-u32-at-2
-    u32-at-requires-2
+    mul-u32-at
+    u32-at-requires
     end-in-requires
     sub-size
     cast-size
-    add-if3
+    add-if2
+    returns-2
+    cast-t15
+    add-t17
+    cast-t18
     returns-3
-    cast-t16
-    add-t18
-    cast-t19
-    returns-4
-    returns-5)
+    returns-4)

@@ -7,12 +7,14 @@ use mathlib.Core.List.{List}
 use mathlib.Core.Option.{Option}
 use native.Mathlib.Omega.{arith}
 use denote.Ref.{now}
+use borrow.Author.Needs.{needs}
+use Rattle.lent.proofs.Field.{Bytes}
 use Rattle.omap.specs.Records.{rest}
 use Rattle.omap.specs.Window.{pieces}
 use Rattle.clash.specs.Clash.{Pair}
 use Rattle.clash.specs.Shared.{firstShared}
 use Rattle.clash.proofs.Later.{Searching, searching-first, searching-more, searching-found, searching-some}
-use Rattle.clash.proofs.Later.{searching-none}
+use Rattle.clash.proofs.Later.{searching-none, pass-high}
 use Rattle.clash.proofs.first_shared.Statement.{statement}
 use Rattle.clash.proofs.first_shared.Tie as tie
 
@@ -29,6 +31,9 @@ module _ (l : tie.At-loop Inv-loop μ-loop) where
 
   abbrev s : List ℕ
   s = now (st .args .table)
+
+  abbrev bytes : Bytes s
+  bytes = l .before .before .shared-slice-known .given
 
   abbrev from : ℕ
   from = st .args .piece .to
@@ -53,14 +58,27 @@ loop-holds c =
 add-j : tie.Need-add-j Inv-loop μ-loop
 add-j c = omega arith
 
+mul-u32-at : tie.Need-mul-u32-at Inv-loop μ-loop
+mul-u32-at c = search needs
+
+add-u32-at : tie.Need-add-u32-at Inv-loop μ-loop
+add-u32-at c = search needs
+
+u32-at-requires : tie.Need-u32-at-requires Inv-loop μ-loop
+u32-at-requires c κs = search needs
+
+cast-target : tie.Need-cast-target Inv-loop μ-loop
+cast-target c = search needs
+
 better-requires : tie.Need-better-requires Inv-loop μ-loop
 better-requires c κs =
-    let l = c .before in
-    (st l .pre .0, (st l .pre .1 .0, (omega arith, (l .loop .inv .low, omega (arith, l .loop .inv .high)))))
+    let u = c .before .before in
+    let l = u .before .before in
+    (st l .pre .0, (st l .pre .1 .0, (omega arith, (l .loop .inv .low, (u .u32-at .ensures, omega arith)))))
 
 returns : tie.Need-returns Inv-loop μ-loop
 returns c =
-    let l = c .before .before .before .before in
+    let l = c .before .before .before .before .before .before .before in
     searching-found (s l) (st l .args .b) (from l) (end l) (st l .args .start) (l .loop .j) (l .loop .best)
     (l .loop .inv)
     (c .before .before .better .result) (c .before .before .better .ensures) (omega arith) (omega arith)
@@ -71,10 +89,25 @@ loop-less c = omega arith
 
 loop-again : tie.Need-loop-again Inv-loop μ-loop
 loop-again c =
-    let l = c .before .before .before .before in
+    let l = c .before .before .before .before .before .before .before in
     searching-more (s l) (st l .args .b) (from l) (end l) (st l .args .start) (l .loop .j) (l .loop .best)
     (l .loop .inv)
     (c .before .before .better .result) (c .before .before .better .ensures) (omega arith)
+
+loop-less-2 : tie.Need-loop-less-2 Inv-loop μ-loop
+loop-less-2 c = omega arith
+
+-- a record whose target is not below the best adds nothing
+loop-again-2 : tie.Need-loop-again-2 Inv-loop μ-loop
+loop-again-2 c =
+    let l = c .before .before .before .before in
+    searching-more (s l) (st l .args .b) (from l) (end l) (st l .args .start) (l .loop .j) (l .loop .best)
+    (l .loop .inv) (l .loop .best)
+    (pass-high (s l) (st l .args .b) (st l .args .last) (st l .pre .1 .0) (st l .pre .0) (bytes l) (l .loop .j)
+    (omega arith) (from l) (l .loop .best) (l .loop .inv .low)
+    (omega (arith, c .before .before .u32-at .ensures, l .loop .inv .low))
+    (omega (arith, c .before .before .u32-at .ensures)))
+    (l .loop .inv .low)
 
 returns-2 : tie.Need-returns-2 Inv-loop μ-loop
 returns-2 c =
@@ -101,9 +134,15 @@ first-shared-spec =
     add-end
     loop-holds
     add-j
+    mul-u32-at
+    add-u32-at
+    u32-at-requires
+    cast-target
     better-requires
     returns
     loop-less
     loop-again
+    loop-less-2
+    loop-again-2
     returns-2
     returns-3)
