@@ -35,6 +35,8 @@ pub data Case : Type 0 where
   lookup : List ℕ → ℕ → Case
   -- the window a..b of a table, with a lent output
   window : List ℕ → ℕ → ℕ → List ℕ → Case
+  -- what the same leaves in the output, also where it is refused
+  left : List ℕ → ℕ → ℕ → List ℕ → Case
   -- how many addresses of a..b the pieces have
   addresses : List ℕ → ℕ → ℕ → Case
 
@@ -48,6 +50,7 @@ windowAnswer (refusedFor n k) out = refused n
 abbrev pub answer : Case → Told (List ℕ)
 answer (lookup s a) = andThen (lookupSpec true s a) (λ (t : ℕ). value (t ∷ []))
 answer (window s a b out) = windowAnswer (windowSpec true s a b (length out / 2)) (windowOut true s a b out)
+answer (left s a b out) = value (windowOut true s a b out)
 answer (addresses s a b) = value (total (windowPieces true s a b) ∷ [])
 
 abbrev pub asked : List Case
@@ -59,7 +62,8 @@ asked =
     ∷ lookup tableT 0x1250
     ∷ window tableT 0x800 0x1400 (0 ∷ 0 ∷ 0 ∷ 0 ∷ 0 ∷ 0 ∷ 7 ∷ [])
     ∷ addresses tableT 0x800 0x1400
-    ∷ window tableHigh 0x10 0x20 (0 ∷ 0 ∷ [])
+    ∷ window tableHigh 0x10 0x20 (7 ∷ 8 ∷ [])
+    ∷ left tableHigh 0x10 0x20 (7 ∷ 8 ∷ [])
     ∷ []
 
 abbrev pub answers : List (Told (List ℕ))
@@ -72,6 +76,7 @@ answers =
     ∷ value (3 ∷ 0x5000 ∷ 0x5100 ∷ 0x4000 ∷ 0x4100 ∷ 0x5080 ∷ 0x5180 ∷ 7 ∷ [])
     ∷ value (0x300 ∷ [])
     ∷ refused 4
+    ∷ value (7 ∷ 8 ∷ [])
     ∷ []
 
 pub cases : map answer asked ≡ answers
