@@ -14,10 +14,7 @@ kind=${1:?"c, x86-64 or native"}
 made=$here/target/setup
 target=x86_64-unknown-linux-gnu
 
-missing() {
-    echo "setup: not to be had: $*" >&2
-    exit 77
-}
+. "$here/debian.sh"
 
 case $kind in
 c | x86-64 | native) ;;
@@ -30,50 +27,6 @@ if [ -f "$made/$kind" ] && [ "$made/$kind" -nt "$0" ]; then
     exit 0
 fi
 mkdir -p "$made"
-
-# ---- Debian's packages
-
-updated=
-update() { # what is wanted
-    [ "${GILLACORN_INSTALL:-yes}" != no ] || missing "$1, without installing"
-    [ -z "$updated" ] || return 0
-    updated=yes
-    command -v apt-get >/dev/null || missing "apt-get (wanted: $1)"
-    apt-get update >"$made/apt.log" 2>&1 || true
-}
-
-install() { # what it is for, then packages
-    local what=$1
-    shift
-    update "$what (Debian: $*)"
-    echo "setup: installing on this machine, for $what: $*" >&2
-    DEBIAN_FRONTEND=noninteractive apt-get install -y --no-install-recommends "$@" \
-        >>"$made/apt.log" 2>&1 || missing "$what (Debian: $*)"
-}
-
-# A package's files, in a folder of ours: nothing is installed.
-unpack() { # folder, what it is for, packages
-    local to=$1 what=$2 file
-    shift 2
-    update "$what (Debian: $*)"
-    echo "setup: fetching into ${to#"$here/"}, for $what: $*" >&2
-    rm -rf "$made/deb" && mkdir -p "$made/deb" "$to"
-    (cd "$made/deb" && apt-get download "$@" >>"$made/apt.log" 2>&1) || missing "$what (Debian: $*)"
-    for file in "$made"/deb/*.deb; do
-        dpkg-deb -x "$file" "$to"
-    done
-}
-
-crate() { # a crate's name; its source goes to target/setup/crates
-    local name=$1 found
-    [ -f "$made/crates/$name/Cargo.toml" ] && return 0
-    rm -rf "$made/unpacked" "${made:?}/crates/$name"
-    unpack "$made/unpacked" "the crate $name" "librust-$name-dev"
-    found=$(find "$made/unpacked" -name Cargo.toml -path "*/$name-*" | head -n 1)
-    [ -n "$found" ] || missing "the crate $name in librust-$name-dev"
-    mkdir -p "$made/crates"
-    cp -r "$(dirname "$found")" "$made/crates/$name"
-}
 
 if [ "$kind" != c ]; then
     crate scroll
