@@ -38,11 +38,7 @@ impl<Cursor: Copy> Walk<Cursor> {
             },
             Err(refusal) => refusal,
         };
-        self.refuse(refusal)
-    }
-
-    #[cold]
-    fn refuse<Item>(&mut self, refusal: Refusal) -> Option<Result<Item>> {
+        // Written out here: a call that took `self` would keep every caller's walk in memory.
         self.place = Err(refusal);
         match core::mem::replace(&mut self.told, true) {
             false => Some(Err(refusal)),

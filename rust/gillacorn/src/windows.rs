@@ -55,13 +55,13 @@ impl<'t> OMAPTable<'t> {
     /// A cursor by value over the pieces of a window. Refusals 1, 2 and 3.
     #[inline]
     pub fn cursor(self, range: Range<u32>) -> Result<Cursor> {
-        start(Some(self.0), range)
+        start(Some(self.0).into(), range)
     }
 
     /// Steps any cursor on this table, in order or not. Refusals 1, 2, 6 and 4.
     #[inline]
     pub fn step(self, cursor: Cursor) -> Result<Step> {
-        step(Some(self.0), cursor)
+        step(Some(self.0).into(), cursor)
     }
 }
 
@@ -81,14 +81,14 @@ pub(crate) fn window(table: Option<&[u8]>, range: Range<u32>, out: &mut [u32]) -
 }
 
 #[inline]
-fn start(table: Option<&[u8]>, range: Range<u32>) -> Result<Cursor> {
-    let given = ffi::cursor_start(table.into(), range.start, range.end);
+fn start(table: Lent<'_>, range: Range<u32>) -> Result<Cursor> {
+    let given = ffi::cursor_start(table, range.start, range.end);
     value(given.code, 0, given.cursor)
 }
 
 #[inline]
-fn step(table: Option<&[u8]>, cursor: Cursor) -> Result<Step> {
-    let given = ffi::cursor_step(cursor, Lent::from(table));
+fn step(table: Lent<'_>, cursor: Cursor) -> Result<Step> {
+    let given = ffi::cursor_step(cursor, table);
     Ok(match answer(given.code, 0, given.start..given.end)? {
         Some(piece) => Step::Piece(piece, given.cursor),
         None => Step::Done(given.cursor),
@@ -100,7 +100,7 @@ fn step(table: Option<&[u8]>, cursor: Cursor) -> Result<Step> {
 #[derive(Clone, Debug, Default)]
 #[must_use = "a refusal is told as an item"]
 pub struct RangeIter<'t> {
-    table: Option<&'t [u8]>,
+    table: Lent<'t>,
     walk: Walk<Cursor>,
 }
 
@@ -120,6 +120,7 @@ impl<'t> RangeIter<'t> {
 
     #[inline]
     pub(crate) fn start(table: Option<&'t [u8]>, range: Range<u32>) -> Self {
+        let table = Lent::from(table);
         RangeIter {
             table,
             walk: Walk::new(start(table, range)),

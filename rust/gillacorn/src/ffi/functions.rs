@@ -4,7 +4,7 @@
 use super::answers::*;
 
 /// A table and its presence mark. The bytes beside an absent mark are not read.
-#[derive(Clone, Copy, Debug)]
+#[derive(Clone, Copy, Debug, Default)]
 pub struct Lent<'t> {
     /// Whether the table is there.
     pub present: bool,
