@@ -61,6 +61,13 @@ cargo_here() { # what to do, then words for it
     "$CARGO" "$1" --offline --quiet --manifest-path "$rust/Cargo.toml" "${@:2}"
 }
 
+# The command line `gillacorn`, over the archive that users link.
+build_cli() {
+    ready
+    bash "$rust/setup_cli.sh" || exit $?
+    "$CARGO" build --offline --quiet --release --manifest-path "$rust/cli/Cargo.toml" --target-dir "$rust/target"
+}
+
 # Runs a program of the release build, under the emulator where there is one.
 run() {
     local program=$1

@@ -6,10 +6,7 @@
 set -euo pipefail
 . "$(dirname "$0")/../rust/lib.sh"
 
-ready
-bash "$rust/setup_cli.sh" || exit $?
-"$CARGO" build --offline --quiet --release --manifest-path "$rust/cli/Cargo.toml" \
-    --target-dir "$rust/target"
+build_cli
 
 work=$(mktemp -d)
 trap 'rm -rf "$work"' EXIT

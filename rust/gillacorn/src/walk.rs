@@ -1,6 +1,6 @@
 //! A walk whose steps may be refused: what ranges and frames have in common.
 
-use crate::refusal::{Refusal, Result};
+use crate::refusal::Result;
 
 /// Where a walk stands. Its refusal, also that of its start, is an item once, and the last one.
 #[derive(Clone, Copy, Debug)]
@@ -56,6 +56,7 @@ impl<Cursor: Copy + Default> Default for Walk<Cursor> {
 #[cfg(test)]
 mod tests {
     use super::*;
+    use crate::refusal::Refusal;
 
     /// Up to `end`, and refused at 7.
     fn next(walk: &mut Walk<u8>, end: u8) -> Option<Result<u8>> {
