@@ -30,29 +30,8 @@ module _ (k : tie.After-known-told2) where
       was-counted (start .args .present) s (start .args .a) (start .args .b) n
       (sym (ap toldCounted (k .before .counted2 .given .1)) ∙ k .before .before .before .count .ensures)
 
-count-requires : tie.Need-count-requires
-count-requires c κs = search needs
-
-enum-known-counted : tie.Need-enum-known-counted
-enum-known-counted c = search needs
-
-idle-requires : tie.Need-idle-requires
-idle-requires c κs = search needs
-
-enum-told : tie.Need-enum-told
-enum-told c = search needs
-
-idle-requires-2 : tie.Need-idle-requires-2
-idle-requires-2 c κs = search needs
-
-enum-known-counted-2 : tie.Need-enum-known-counted-2
-enum-known-counted-2 c = search needs
-
 span-of-requires : tie.Need-span-of-requires
 span-of-requires c κs = counts (c .before) .order
-
-idle-requires-3 : tie.Need-idle-requires-3
-idle-requires-3 c κs = search needs
 
 returns : tie.Need-returns
 returns c =
@@ -90,16 +69,6 @@ returns-4 c =
 pub plan-spec : {M : Type 1} → statement M
 plan-spec =
     tie.close
-    (tie.spec
-    count-requires
-    enum-known-counted
-    idle-requires
-    enum-told
-    idle-requires-2
-    enum-known-counted-2
-    span-of-requires
-    idle-requires-3
-    returns
-    returns-2
-    returns-3
+    (tie.spec (λ c κs. search needs) (λ c. search needs) (λ c κs. search needs) (λ c. search needs)
+    (λ c κs. search needs) (λ c. search needs) span-of-requires (λ c κs. search needs) returns returns-2 returns-3
     returns-4)

@@ -37,12 +37,6 @@ module _ (k : tie.After-known-told) where
   small : (p .to ≤ 4294967295) × (besideStart p ≤ 4294967295)
   small = pulled-fits (st .args .present) s (st .args .a) (st .args .b) (st .args .span) (st .pre) p n found
 
-next-piece-requires : tie.Need-next-piece-requires
-next-piece-requires c κs = search needs
-
-enum-known-next : tie.Need-enum-known-next
-enum-known-next c = search needs
-
 cast-t11 : tie.Need-cast-t11
 cast-t11 c = omega (arith, small (c .before) .0)
 
@@ -51,9 +45,6 @@ beside-start-requires c κs = found (c .before) .small
 
 cast-t13 : tie.Need-cast-t13
 cast-t13 c = omega (arith, c .beside-start .ensures, small (c .before .before) .1)
-
-enum-told : tie.Need-enum-told
-enum-told c = search needs
 
 returns : tie.Need-returns
 returns c =
@@ -71,12 +62,5 @@ returns-2 c =
 pub pull-spec : {M : Type 1} → statement M
 pull-spec =
     tie.close
-    (tie.spec
-    next-piece-requires
-    enum-known-next
-    cast-t11
-    beside-start-requires
-    cast-t13
-    enum-told
-    returns
-    returns-2)
+    (tie.spec (λ c κs. search needs) (λ c. search needs) cast-t11 beside-start-requires cast-t13 (λ c. search needs)
+    returns returns-2)

@@ -10,21 +10,6 @@ use borrow.Author.Needs.{needs}
 use Rattle.ranges.proofs.reader.plan_drain.Statement.{statement}
 use Rattle.ranges.proofs.reader.plan_drain.Tie as tie
 
-plan-requires : tie.Need-plan-requires
-plan-requires c κs = search needs
-
-start-requires : tie.Need-start-requires
-start-requires c κs = search needs
-
-enum-known-started : tie.Need-enum-known-started
-enum-known-started c = search needs
-
-mul-t12 : tie.Need-mul-t12
-mul-t12 c = search needs
-
-enum-told : tie.Need-enum-told
-enum-told c = search needs
-
 returns : tie.Need-returns
 returns c =
     let k = c .before .before .before in
@@ -41,4 +26,7 @@ returns-2 c =
     (sym (ap toldStarted (c .enum-told .given .1)) ∙ c .before .before .start .ensures) _
 
 pub plan-drain-spec : {M : Type 1} → statement M
-plan-drain-spec = tie.close (tie.spec plan-requires start-requires enum-known-started mul-t12 enum-told returns returns-2)
+plan-drain-spec =
+    tie.close
+    (tie.spec (λ c κs. search needs) (λ c κs. search needs) (λ c. search needs) (λ c. search needs)
+    (λ c. search needs) returns returns-2)
