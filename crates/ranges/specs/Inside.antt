@@ -12,6 +12,7 @@ use Rattle.omap.specs.Output.{allFit, flat, Window, counted, refusedAs, refused
 use Rattle.omap.specs.Step.{Stepped, piece, done, refusedAt}
 use Rattle.omap.specs.Run.{run}
 use Rattle.omap.specs.declared.walk.Span.{Span}
+use Rattle.omap.specs.declared.cursor.Cursor.{Cursor}
 use Rattle.ranges.specs.declared.WindowPlan.{WindowPlan}
 use Rattle.ranges.specs.declared.PulledPiece.{PulledPiece}
 use Rattle.ranges.specs.declared.reader.DrainPlan.{DrainPlan}
@@ -52,9 +53,13 @@ asTaken (piece f t c) = record { start = f; end = t; next = c }
 asTaken (done c) = record { start = 0; end = 0; next = c }
 asTaken (refusedAt n c) = record { start = 0; end = 0; next = c }
 
+-- stepped to its end, the cursor yields these numbers
+pub record Yields (present : Bool) (s : List ℕ) (c : Cursor) (l : List ℕ) : Type 0 where
+  pub steps : ℕ
+  pub gives : run present s steps c ≡ value l
+
 pub record DrainPlanned (present : Bool) (s : List ℕ) (a b places : ℕ) (r : DrainPlan) : Type 0 where
   pub told : toldWindowed (r .answer) ≡ windowSpec present s a b (places / 2)
   pub number : r .numbers ≡ length (flat (toWrite present s a b (places / 2)))
   pub enough : r .numbers ≤ places
-  -- stepped to its end, the cursor yields them
-  pub gives : 0 < r .numbers → (n : ℕ) × (run present s n (r .cursor) ≡ value (flat (toWrite present s a b (places / 2))))
+  pub gives : 0 < r .numbers → Yields present s (r .cursor) (flat (toWrite present s a b (places / 2)))

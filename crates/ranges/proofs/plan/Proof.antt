@@ -41,7 +41,7 @@ returns c =
     let why = k .counted .given .0 .0 in
     let e = was-refused (a .present) s (a .a) (a .b) (number why) (sym (ap toldCounted (k .counted .given .1)) ∙ k .before .before .count .ensures) in
     rw (c .idle .ensures)
-    (plan-idle (a .present) s (a .a) (a .b) (a .room) (windowed.Refused why) (answer-refused (a .present) s (a .a) (a .b) (a .room) (number why) e) refl)
+    (plan-idle (windowed.Refused why) (answer-refused (a .present) s (a .a) (a .b) (a .room) (number why) e) refl)
 
 returns-2 : tie.Need-returns-2
 returns-2 c =
@@ -50,20 +50,20 @@ returns-2 c =
     let s = now (a .table) in
     let e = was-refused (a .present) s (a .a) (a .b) 4 (sym (ap toldCounted (k .enum-told .given .1)) ∙ k .before .before .count .ensures) in
     rw (c .idle2 .ensures)
-    (plan-idle (a .present) s (a .a) (a .b) (a .room) windowed.TooLarge (answer-refused (a .present) s (a .a) (a .b) (a .room) 4 e) refl)
+    (plan-idle windowed.TooLarge (answer-refused (a .present) s (a .a) (a .b) (a .room) 4 e) refl)
 
 returns-3 : tie.Need-returns-3
 returns-3 c =
     let k = c .before .before in
     let a = start k .args in
-    plan-pieces (a .present) (s k) (a .a) (a .b) (a .room) (n k) (counts k) (omega arith) (c .span-of .result) (c .span-of .ensures)
+    plan-pieces (n k) (counts k) (omega arith) (c .span-of .result) (c .span-of .ensures)
 
 returns-4 : tie.Need-returns-4
 returns-4 c =
     let k = c .before .before in
     let a = start k .args in
     rw (c .idle3 .ensures)
-    (plan-idle (a .present) (s k) (a .a) (a .b) (a .room) (windowed.Short (n k))
+    (plan-idle (windowed.Short (n k))
     (answer-short (a .present) (s k) (a .a) (a .b) (a .room) (n k) (counts k) (omega arith)) refl)
 
 pub plan-spec : {M : Type 1} → statement M

@@ -15,14 +15,14 @@ returns c =
     let k = c .before .before .before in
     let f = k .before .before in
     let a = f .before .before .args in
-    drain-started (a .present) (now (a .table)) (a .a) (a .b) (a .places) (f .plan .result) (f .plan .ensures) (omega arith) (c .before .before .started .given .0 .0)
+    drain-started (f .plan .ensures) (omega arith) (c .before .before .started .given .0 .0)
     (sym (ap toldStarted (c .before .before .started .given .1)) ∙ k .before .start .ensures)
 
 returns-2 : tie.Need-returns-2
 returns-2 c =
     let f = c .before .before .before in
     let a = f .before .before .args in
-    drain-refused (a .present) (now (a .table)) (a .a) (a .b) (a .places) (f .plan .result) (f .plan .ensures) (number (c .enum-told .given .0 .0))
+    drain-refused (f .plan .ensures) (number (c .enum-told .given .0 .0))
     (sym (ap toldStarted (c .enum-told .given .1)) ∙ c .before .before .start .ensures) _
 
 pub plan-drain-spec : {M : Type 1} → statement M
