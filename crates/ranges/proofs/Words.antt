@@ -33,7 +33,7 @@ pub use types.Kit.{fsplit, fjoin, frame, done, anyQ, atRet, Sq, by, use2, rewrit
 pub use types.Part.{Part, whole, sub, look-in, agg}
 pub use types.Run.{look, init, forget, stop, fld, from, load, Opd, Rv, assigns, alloc1, alloc0, free1, free0, Opds}
 pub use types.Run.{store, store-raw, hop, lit, of-opd, and-then, no-more, bin, assigns-last, land, first, blocks, stays}
-pub use types.Run.{leaves-loop, returns, enter, params1, pass1, pass0, exec, Below, again, loops}
+pub use types.Run.{leaves-loop, returns as gives-back, enter, params1, pass1, pass0, exec, Below, again, loops}
 pub use denote.Builtin.{u8, u32, bool, usize}
 pub use denote.Exit.{yes}
 pub use denote.Index.{row, place-is, elem-out, elem-put, opens-slice, closes-slice}

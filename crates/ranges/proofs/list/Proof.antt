@@ -11,7 +11,7 @@ use words.{vint, vptr, flft, ent, id⊢, fst∗, SProp, emp, Memory, Routine, He
 use words.{afterBlock, Wp, atReturn, afterTurn, Atoms, fmOf, Fun, factI, givenOf, tables, tablesOf, Given, Item, ‵, ⋆}
 use words.{runs, _$_, move, raw, _⊛_, split, _∵_, !, qed, drop, frame, done, anyQ, atRet, Sq, by, use2, rewrite}
 use words.{suffices, look, init, forget, stop, from, assigns, store, store-raw, hop, lit, of-opd, and-then, no-more}
-use words.{bin, assigns-last, land, first, blocks, stays, leaves-loop, returns, enter, params1, pass1, pass0, exec}
+use words.{bin, assigns-last, land, first, blocks, stays, leaves-loop, gives-back, enter, params1, pass1, pass0, exec}
 use words.{Below, again, loops, u8, usize, place-is, elem-out, elem-put, opens-slice, closes-slice, Is, shows}
 use words.{uint-makes, now, shr-slice-lawful, owned, Clauses, Contract, Triple, entered, cited, walkOf, says, ends-at}
 use denote.Enum.Laws as EL
@@ -97,9 +97,9 @@ module _ {M : Type 1} (𝓤 : URA M) (H : Heap 𝓤) (A : Atoms 𝓤) (W : Given
   abbrev Plans : WindowPlan → Type 0
   Plans = Planned (d .on) (now (d .s)) (d .lo) (d .hi) (length (d .xs))
 
-  exits : (t : WindowPlan) → Plans t → Is F.the-row (t .answer) (F.Laws.lowered (t .answer) ∷ []) → (w : State (t .count))
+  returns : (t : WindowPlan) → Plans t → Is F.the-row (t .answer) (F.Laws.lowered (t .answer) ∷ []) → (w : State (t .count))
       → t .count ≤ w .k → ent 𝓤 (⋆ 𝓤 H A (shut 𝓤 d (w .out))) (Post (F.Laws.lowered (t .answer)))
-  exits t p is w all =
+  returns t p is w all =
       qed W (shut 𝓤 d (w .out)) ∵
       suffices ! _ (ends-at 𝓤 H A list.ended (stayed P.the-row) clauses W bound _ (t .answer)
       (tt, (tt, (tt, (tt, (w .out, tt))))) (tt, (tt, (tt, (tt, (w .kept, tt)))))) $
@@ -194,9 +194,9 @@ module _ {M : Type 1} (𝓤 : URA M) (H : Heap 𝓤) (A : Atoms 𝓤) (W : Given
         exec ! (𝓣 .C) (𝓣 .Λ) En code.Mir.t-7 (atRet En Post) $ closes-slice ! tt P.the-row (d .xs) (w .out) (w .kept) (d .b) (d .o) $
         -- [obs; the borrow; out's token; table's token; what table owns; _0; …]
         puts ! (of-opd ! (get-field ! 17 refl refl refl)) 5 refl
-        (EL.lawful F.the-type F.Laws.the-laws 𝓤 H A W tt .typed (t .answer) _ is-answer .0) $ returns ! (look ! 5 refl) $
+        (EL.lawful F.the-type F.Laws.the-laws 𝓤 H A W tt .typed (t .answer) _ is-answer .0) $ gives-back ! (look ! 5 refl) $
         free-all ! (code.function .locals) bs (values (some (F.Laws.lowered (t .answer))) w (some (vbool false)))
-        (shut 𝓤 d (w .out)) $ by ! (exits t p is-answer w (nltb→le (w .k) n (subst (λ (z : Bool). Holds (not z)) (sym e) tt)))
+        (shut 𝓤 d (w .out)) $ by ! (returns t p is-answer w (nltb→le (w .k) n (subst (λ (z : Bool). Holds (not z)) (sym e) tt)))
 
     turns : (w : State n) → Sq W (At w) (runs (𝓣 .C) (𝓣 .Λ) En code.Mir.turn-1 (anyQ (Turned w)))
     turns w = turn-at w (ltb (w .k) n) refl

@@ -13,7 +13,7 @@ use words.{Routine, Heap, Env, WpFn, Tables, Out, afterSeq, afterBlock, Wp, atRe
 use words.{givenOf, tables, tablesOf, Given, Item, ‵, ⋆, runs, _$_, move, raw, _⊛_, use1, split, _∵_, !, qed, drop}
 use words.{join, fjoin, frame, done, anyQ, atRet, Sq, by, use2, rewrite, suffices, look, init, forget, stop, from}
 use words.{assigns, store, hop, lit, of-opd, and-then, no-more, bin, assigns-last, land, first, blocks, stays}
-use words.{leaves-loop, returns, enter, params1, pass1, pass0, exec, Below, again, loops, u8, u32, bool, usize}
+use words.{leaves-loop, gives-back, enter, params1, pass1, pass0, exec, Below, again, loops, u8, u32, bool, usize}
 use words.{place-is, elem-out, elem-put, opens-slice, closes-slice, Is, shows, uint-vals, uint-tells, uint-makes}
 use words.{bool-makes, RattleType, now, NamedLft, namedLft, shr-slice-copy, shr-slice-lawful, peeks, owned, nothing}
 use words.{Clauses, Contract, Triple, entered, cited, walkOf, says, ends-at}
@@ -171,9 +171,9 @@ module _ {M : Type 1} (𝓤 : URA M) (H : Heap 𝓤) (A : Atoms 𝓤) (W : Given
   abbrev Plans : DrainPlan → Type 0
   Plans = DrainPlanned (d .on) (now (d .s)) (d .lo) (d .hi) (length (d .xs))
 
-  exits : (t : DrainPlan) → Plans t → Is F.the-row (t .answer) (F.Laws.lowered (t .answer) ∷ []) → (w : State (t .numbers))
+  returns : (t : DrainPlan) → Plans t → Is F.the-row (t .answer) (F.Laws.lowered (t .answer) ∷ []) → (w : State (t .numbers))
       → t .numbers ≤ w .k → ent 𝓤 (⋆ 𝓤 H A (shut 𝓤 d (w .out))) (Post (F.Laws.lowered (t .answer)))
-  exits t p is w all =
+  returns t p is w all =
       qed W (shut 𝓤 d (w .out)) ∵
       suffices ! _ (ends-at 𝓤 H A drain.ended (stayed u32) clauses W bound _ (t .answer)
       (tt, (tt, (tt, (tt, (w .out, tt))))) (tt, (tt, (tt, (tt, (w .kept, tt)))))) $
@@ -299,9 +299,9 @@ module _ {M : Type 1} (𝓤 : URA M) (H : Heap 𝓤) (A : Atoms 𝓤) (W : Given
         exec ! (𝓣 .C) (𝓣 .Λ) En code.Mir.t-7 (atRet En Post) $ closes-slice ! tt u32 (d .xs) (w .out) (w .kept) (d .b) (d .o) $
         -- [obs; the borrow; out's token; table's token; what table owns; what the reader owns; _0; …]
         move ! (5 ∷ []) $ drop ! $ puts ! (of-opd ! (get-field ! 17 refl refl refl)) 5 refl
-        (EL.lawful F.the-type F.Laws.the-laws 𝓤 H A W tt .typed (t .answer) _ is-answer .0) $ returns ! (look ! 5 refl) $
+        (EL.lawful F.the-type F.Laws.the-laws 𝓤 H A W tt .typed (t .answer) _ is-answer .0) $ gives-back ! (look ! 5 refl) $
         free-all ! (code.function .locals) bs (values (some (F.Laws.lowered (t .answer))) w (some (vbool false)))
-        (shut 𝓤 d (w .out)) $ by ! (exits t p is-answer w (nltb→le (w .k) n (subst (λ (z : Bool). Holds (not z)) (sym e) tt)))
+        (shut 𝓤 d (w .out)) $ by ! (returns t p is-answer w (nltb→le (w .k) n (subst (λ (z : Bool). Holds (not z)) (sym e) tt)))
 
     turns : (w : State n) → Sq W (At w) (runs (𝓣 .C) (𝓣 .Λ) En code.Mir.turn-1 (anyQ (Turned w)))
     turns w = turn-at w (ltb (w .k) n) refl

@@ -5,7 +5,7 @@ use Rattle.ranges.proofs.Words as words
 use words.{List, [], _∷_, some, refl, Holds, length, URA, named, Val, WT, hasTy, vbool, Share, Fml, Lft, ftrue, flft}
 use words.{ent, SProp, Memory, Routine, Heap, Calls, Loops, WpFn, Atoms, Lfts, Fun, givenOf, tables, tablesOf, Given}
 use words.{Item, ‵, _$_, move, _⊛_, use1, split, _∵_, !, qed, fsplit, fjoin, frame, by, suffices, agg, look, init}
-use words.{of-opd, and-then, no-more, returns, enter, params1, pass1, pass0, yes, Is, RattleType, owns, NamedLft}
+use words.{of-opd, and-then, no-more, gives-back, enter, params1, pass1, pass0, yes, Is, RattleType, owns, NamedLft}
 use words.{namedLft, sliceVal, owned, own-put, onEntry, Vals, entered, Stays, walkOf, stay-none, goes-none, says}
 use words.{ends-at}
 use denote.Struct.Laws as LL
@@ -56,8 +56,8 @@ module _ {M : Type 1} (𝓤 : URA M) (H : Heap 𝓤) (A : Atoms 𝓤) (W : Given
   abbrev entry : List (Item 𝓤)
   entry = (‵ (flft κ q) ⊛ ‵ ftrue) ∷ ‵ (owns (B (κ, tt) ∷ Cu.the-row ∷ []) (d, (c, tt)) at) ∷ []
 
-  exits : Is Cu.the-row c (u ∷ []) → ent 𝓤 (onEntry 𝓤 H A moved.signature (κ, tt) (q, tt) (d, (c, tt)) at) (Post (T.Laws.lowered d′))
-  exits pc =
+  returns : Is Cu.the-row c (u ∷ []) → ent 𝓤 (onEntry 𝓤 H A moved.signature (κ, tt) (q, tt) (d, (c, tt)) at) (Post (T.Laws.lowered d′))
+  returns pc =
       qed W entry ∵
       suffices ! _ (ends-at 𝓤 H A moved.ended stayed (moved.clauses 𝓤 H A mem run) W (((κ, tt), (q, tt), tt, (d, (c, tt)), at), tt) (T.Laws.lowered d′) d′ (tt, (tt, tt)) (tt, (tt, tt))) $ says ! (refl, (refl, refl)) $
       frame ! $ fsplit ! $ use1 W (‵ Own ⊛ ‵ Own) (LL.copy (T.the-type (namedLft 1 0 tt (κ, tt))) (T.Laws.the-copy (namedLft 1 0 tt (κ, tt))) 𝓤 H A W .twice d (mach ∷ [])) $ split ! $ move ! (0 ∷ 2 ∷ []) $ fjoin ! $ frame ! $
@@ -72,9 +72,9 @@ module _ {M : Type 1} (𝓤 : URA M) (H : Heap 𝓤) (A : Atoms 𝓤) (W : Given
         pass1 ! (init ! 4 refl wt) $ pass1 ! (init ! 6 refl wc) $ pass0 ! $
         puts ! (of-opd ! (get-field ! 4 refl refl refl)) 8 refl (tt, wt .1 .0) $ puts ! (of-opd ! (get-field ! 4 refl refl refl)) 10 refl (tt, wt .1 .1 .0) $
         puts ! (agg ! (and-then ! (get ! 8 refl) (and-then ! (get ! 10 refl) (and-then ! (get ! 6 refl) (no-more !))))) 2 refl (tt, (wt .1 .0, (wt .1 .1 .0, (wc .1, tt)))) $
-        returns ! (look ! 2 refl) $
+        gives-back ! (look ! 2 refl) $
         free-all ! (code.function .locals) bs (some (T.Laws.lowered d′) ∷ some mach ∷ some u ∷ some (vbool (d .present)) ∷ some v ∷ []) entry $
-        by ! (exits pc))
+        by ! (returns pc))
       where
         wt : Holds (hasTy (T.Laws.mir (named 0)) mach) × WT mach
         wt = LL.lawful (T.the-type α) (T.Laws.the-laws α) 𝓤 H A W .typed d _ pd .0

@@ -5,7 +5,7 @@ use Rattle.ranges.proofs.Words as words
 use words.{Bool, List, [], _∷_, some, refl, ℕ, Holds, length, URA, Ty, named, imm, w8, tyInt, tyRef, Val, WT, hasTy}
 use words.{vbool, Share, Fml, Lft, ftrue, flft, ent, SProp, Memory, Routine, Heap, Calls, Loops, WpFn, Atoms, Fun}
 use words.{givenOf, tables, tablesOf, Given, ‵, _$_, move, raw, _⊛_, use1, split, _∵_, !, qed, fsplit, fjoin, frame, by}
-use words.{suffices, agg, look, init, and-then, no-more, returns, enter, params1, pass1, pass0, u8, bool, yes, Is}
+use words.{suffices, agg, look, init, and-then, no-more, gives-back, enter, params1, pass1, pass0, u8, bool, yes, Is}
 use words.{bool-vals, bool-tells, bool-makes, owns, RefT, NamedLft, plain, namedLft, sliceVal, ShrSlice, slice-vals}
 use words.{shr-slice-tells, shr-slice-copy, shr-slice-lawful, sliceTy, owned, nothing, own-shut, onEntry, Vals, entered}
 use words.{Stays, walkOf, stay-none, stay-none-slice, goes-none, goes-none-slice, says, ends-at}
@@ -50,8 +50,8 @@ module _ {M : Type 1} (𝓤 : URA M) (H : Heap 𝓤) (A : Atoms 𝓤) (W : Given
   abbrev Own : Fml
   Own = ShrSlice (named 0) κ u8 .own s (v ∷ [])
 
-  exits : Is Cu.the-row c (u ∷ []) → ent 𝓤 (onEntry 𝓤 H A new.signature (κ, tt) (q, tt) (on, (s, (c, tt))) at) (Post (T.Laws.lowered made))
-  exits pc =
+  returns : Is Cu.the-row c (u ∷ []) → ent 𝓤 (onEntry 𝓤 H A new.signature (κ, tt) (q, tt) (on, (s, (c, tt))) at) (Post (T.Laws.lowered made))
+  returns pc =
       qed W ((‵ (flft κ q) ⊛ ‵ ftrue) ∷ ‵ (owns (bool ∷ ShrSlice (named 0) κ u8 ∷ Cu.the-row ∷ []) (on, (s, (c, tt))) at) ∷ []) ∵
       suffices ! _ (ends-at 𝓤 H A new.ended stayed (new.clauses 𝓤 H A mem run) W (((κ, tt), (q, tt), tt, (on, (s, (c, tt))), at), tt) (T.Laws.lowered made) made (tt, (tt, (tt, tt))) (tt, (tt, (tt, tt)))) $ says ! (refl, (refl, refl)) $
       frame ! $ fsplit ! $ move ! (1 ∷ []) $ fsplit ! $ use1 W (‵ Own ⊛ ‵ Own) (shr-slice-copy 𝓤 H A W (named 0) κ u8 .twice s (v ∷ [])) $ split ! $
@@ -67,7 +67,7 @@ module _ {M : Type 1} (𝓤 : URA M) (H : Heap 𝓤) (A : Atoms 𝓤) (W : Given
         qed W (raw (onEntry 𝓤 H A new.signature (κ, tt) (q, tt) (on, (s, (c, tt))) at) ∷ []) ∵ enter ! C Λ code.function (vbool on ∷ v ∷ u ∷ []) _ $
         alloc-all ! (λ bs. params1 ! $ pass1 ! (init ! 3 refl (tt, tt)) $ pass1 ! (init ! 5 refl wv) $ pass1 ! (init ! 7 refl wc) $ pass0 ! $
         puts ! (agg ! (and-then ! (get ! 3 refl) (and-then ! (get ! 5 refl) (and-then ! (get ! 7 refl) (no-more !))))) 1 refl (tt, (tt, (wv .1, (wc .1, tt)))) $
-        returns ! (look ! 1 refl) $ free-all ! (code.function .locals) bs (some (T.Laws.lowered made) ∷ some (vbool on) ∷ some v ∷ some u ∷ []) (raw (onEntry 𝓤 H A new.signature (κ, tt) (q, tt) (on, (s, (c, tt))) at) ∷ []) $ by ! (exits pc))
+        gives-back ! (look ! 1 refl) $ free-all ! (code.function .locals) bs (some (T.Laws.lowered made) ∷ some (vbool on) ∷ some v ∷ some u ∷ []) (raw (onEntry 𝓤 H A new.signature (κ, tt) (q, tt) (on, (s, (c, tt))) at) ∷ []) $ by ! (returns pc))
       where
         wv : Holds (hasTy tableTy v) × WT v
         wv = shr-slice-lawful 𝓤 H A W (named 0) κ u8 .typed s (v ∷ []) p .0

@@ -6,9 +6,9 @@ use words.{List, [], _∷_, some, _≡_, refl, Holds, length, URA, named, Val, W
 use words.{flft, ent, sep, id⊢, SProp, Memory, Routine, Heap, WpFn, Tables, Atoms, sem, fmOf, Lfts, Fun, givenOf}
 use words.{tables, tablesOf, Given, Item, ‵, ⋆, step, _$_, move, raw, _⊛_, use1, split, _∵_, !, qed, drop, join, fsplit}
 use words.{fjoin, frame, done, by, use2, suffices, given, learn, look, init, stop, from, of-opd, and-then, no-more}
-use words.{land, returns, enter, params1, pass1, pass0, u8, bool, yes, Is, bool-makes, RattleType, owns, now, namedLft}
-use words.{sliceVal, ShrSlice, owned, nothing, Declared, all-own, ownAt, rest, own-open, own-out, Values, onEntry, Vals}
-use words.{Contract, Triple, entered, cited, Stays, walkOf, stay-none, goes-none, says, ends-at}
+use words.{land, gives-back, enter, params1, pass1, pass0, u8, bool, yes, Is, bool-makes, RattleType, owns, now}
+use words.{namedLft, sliceVal, ShrSlice, owned, nothing, Declared, all-own, ownAt, rest, own-open, own-out, Values}
+use words.{onEntry, Vals, Contract, Triple, entered, cited, Stays, walkOf, stay-none, goes-none, says, ends-at}
 use denote.Enum.Laws as EL
 use denote.Struct.Laws as LL
 use Rattle.omap.specs.Step.{toldStep, stepSpec}
@@ -88,8 +88,8 @@ module _ {M : Type 1} (𝓤 : URA M) (H : Heap 𝓤) (A : Atoms 𝓤) (W : Given
   abbrev left : Step → List (Item 𝓤)
   left r = ‵ (S.the-row .own r (S.Laws.lowered r ∷ [])) ∷ (‵ (flft κ q) ⊛ ‵ ftrue) ∷ ‵ Own ∷ []
 
-  exits : (r : Step) → Found r → ent 𝓤 (⋆ 𝓤 H A (left r)) (Post (S.Laws.lowered r))
-  exits r e =
+  returns : (r : Step) → Found r → ent 𝓤 (⋆ 𝓤 H A (left r)) (Post (S.Laws.lowered r))
+  returns r e =
       qed W (left r) ∵
       suffices ! _ (ends-at 𝓤 H A next.ended stayed (next.clauses 𝓤 H A mem run) W (((κ, tt), (q, tt), tt, (d, tt), (mach ∷ [], tt)), tt) (S.Laws.lowered r) r (tt, tt) (tt, tt)) $ says ! e $
       move ! (1 ∷ []) $ frame ! $ nothing ! $ move ! (2 ∷ 0 ∷ []) $ fjoin ! $ frame ! $ done !
@@ -105,9 +105,9 @@ module _ {M : Type 1} (𝓤 : URA M) (H : Heap 𝓤) (A : Atoms 𝓤) (W : Given
         hears ! (fmOf 𝓤 H (W .laws) 𝓣) step.ended (step.clauses 𝓤 H A mem run) known to (‵ (flft κ q) ⊛ ‵ ftrue) (id⊢ 𝓤 _) Found (λ r ws. id⊢ 𝓤 _) S.Laws.lowered (S.Laws.the-field-laws .low-is)
         (and-then ! (get ! 6 refl) (and-then ! (get ! 8 refl) (and-then ! (get ! 10 refl) (no-more !)))) (λ r e is.
         -- [the answer; the token; what the struct owns; _0; …]
-        land ! (from ! (stop !)) (init ! 3 refl (EL.lawful S.the-type S.Laws.the-laws 𝓤 H A W tt .typed r _ is .0)) $ returns ! (look ! 3 refl) $
+        land ! (from ! (stop !)) (init ! 3 refl (EL.lawful S.the-type S.Laws.the-laws 𝓤 H A W tt .typed r _ is .0)) $ gives-back ! (look ! 3 refl) $
         free-all ! (code.function .locals) bs (some (S.Laws.lowered r) ∷ some mach ∷ some (Cu.Laws.lowered (d .cursor)) ∷ some (vbool (d .present)) ∷ some v ∷ []) (left r) $
-        by ! (exits r e)))
+        by ! (returns r e)))
       where
         wt : Holds (hasTy (T.Laws.mir (named 0)) mach) × WT mach
         wt = LL.lawful D L 𝓤 H A W .typed d _ pd .0
