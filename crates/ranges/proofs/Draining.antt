@@ -43,29 +43,30 @@ module _ (s : List ℕ) (a b room n : ℕ) where
 two-each : (m n : ℕ) → m ≤ n / 2 → m * 2 ≤ n
 two-each m n h = omega arith
 
-module _ {present : Bool} {s : List ℕ} {a b places : ℕ} {t : WindowPlan} (p : Planned present s a b (places / 2) t) where
-  pub drain-started : b ≤ 4294967295 → (c : Cursor) → value c ≡ startSpec present s a b
-      → DrainPlanned present s a b places (record { answer = t .answer; numbers = t .count * 2; cursor = c })
-  drain-started small c e = record {
-    told = p .told;
-    number = omega (arith, p .number, length-flat (toWrite present s a b (places / 2)));
-    enough = two-each (t .count) places (p .enough);
-    gives = λ h.
-        let all = windowPieces present s a b in
-        let same = all-written (windowSpec present s a b (places / 2)) all (omega (arith, p .number)) in
-        let n : ℕ = suc (length all) in
-        let f = stepping-fits present s a b c (sym e) small (p .fit (omega arith)) n (omega arith) in
-        record { steps = n; gives = f ∙ ap (λ (l : List MappedPiece). value (flat l)) (sym same) };
-  }
+module _ {present : Bool} {s : List ℕ} {a b places : ℕ} {t : WindowPlan} (p : Planned present s a b (places / 2) t)
+  where
+    pub drain-started : b ≤ 4294967295 → (c : Cursor) → value c ≡ startSpec present s a b
+        → DrainPlanned present s a b places (record { answer = t .answer; numbers = t .count * 2; cursor = c })
+    drain-started small c e = record {
+      told = p .told;
+      number = omega (arith, p .number, length-flat (toWrite present s a b (places / 2)));
+      enough = two-each (t .count) places (p .enough);
+      gives = λ h.
+          let all = windowPieces present s a b in
+          let same = all-written (windowSpec present s a b (places / 2)) all (omega (arith, p .number)) in
+          let n : ℕ = suc (length all) in
+          let f = stepping-fits present s a b c (sym e) small (p .fit (omega arith)) n (omega arith) in
+          record { steps = n; gives = f ∙ ap (λ (l : List MappedPiece). value (flat l)) (sym same) };
+    }
 
-  pub drain-refused : (n : ℕ) → refused n ≡ startSpec present s a b → (c : Cursor)
-      → DrainPlanned present s a b places (record { answer = t .answer; numbers = 0; cursor = c })
-  drain-refused n e c = record {
-    told = p .told;
-    number = omega (arith, unwritten s a b (places / 2) n present e, length-flat (toWrite present s a b (places / 2)));
-    enough = omega arith;
-    gives = λ h. absurd (omega arith);
-  }
+    pub drain-refused : (n : ℕ) → refused n ≡ startSpec present s a b → (c : Cursor)
+        → DrainPlanned present s a b places (record { answer = t .answer; numbers = 0; cursor = c })
+    drain-refused n e c = record {
+      told = p .told;
+      number = omega (arith, unwritten s a b (places / 2) n present e, length-flat (toWrite present s a b (places / 2)));
+      enough = omega arith;
+      gives = λ h. absurd (omega arith);
+    }
 
 pub to-drain-out : (present : Bool) (s : List ℕ) (a b : ℕ) (out : List ℕ)
     → writtenOver (flat (toWrite present s a b (length out / 2))) out ≡ windowOut present s a b out

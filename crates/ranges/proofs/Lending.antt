@@ -14,7 +14,9 @@ use words.{nothing, Kepts, Stays, AllGo, stay-slice, stay-none, stay-none-slice,
 -- ---- the parameters
 module _ (E : RattleType) where
   abbrev slots : List (Slot 2)
-  slots = plain (λ _. bool) ∷ shrSliceOf (0 ∷ []) tt (plain (λ _. u8)) ∷ plain (λ _. u32) ∷ plain (λ _. u32) ∷ mutSliceOf (1 ∷ []) tt (plain (λ _. E)) ∷ []
+  slots =
+      plain (λ _. bool) ∷ shrSliceOf (0 ∷ []) tt (plain (λ _. u8)) ∷ plain (λ _. u32) ∷ plain (λ _. u32) ∷ mutSliceOf
+      (1 ∷ []) tt (plain (λ _. E)) ∷ []
 
   abbrev kepts : Kepts slots
   kepts = (yes, (yes, (yes, (yes, (yes, tt)))))
@@ -38,7 +40,8 @@ module _ (E : RattleType) where
   spelt κs = (bool-vals, (slice-vals, (uint-vals w32, (uint-vals w32, (slice-vals, tt)))))
 
   abbrev pub tells : (κs : Lfts 2) → Tellss (typesAt slots κs) (Ises (typesAt slots κs)) (spelt κs)
-  tells κs = (bool-tells, (shr-slice-tells (named 0) (κs .0) u8, (uint-tells w32, (uint-tells w32, (mut-slice-tells (named 1) (κs .1 .0) E, tt)))))
+  tells κs =
+      (bool-tells, (shr-slice-tells (named 0) (κs .0) u8, (uint-tells w32, (uint-tells w32, (mut-slice-tells (named 1) (κs .1 .0) E, tt)))))
 
   module _ {M : Type 1} (𝓤 : URA M) (H : Heap 𝓤) (A : Atoms 𝓤) (W : Given 𝓤 H A) where
     pub gone : AllGo 𝓤 H A W 2 slots kepts stayed
@@ -162,27 +165,37 @@ module _ {M : Type 1} {𝓤 : URA M} {H : Heap 𝓤} {A : Atoms 𝓤} (W : Given
     -- at entry
     pub apart : K → Rule K W (shut 𝓤 d (d .xs) ++ Γ) G (entry 𝓤 d (d .xs) ++ Γ) G
     apart t = step (λ z.
-        split t $ move t (2 ∷ []) $ fsplit t $ drop t $ fsplit t $ move t (1 ∷ []) $ fsplit t $ drop t $ fsplit t $ drop t $ fsplit t $ fsplit t $ drop t $
+        split t $ move t (2 ∷ []) $ fsplit t $ drop t $ fsplit t $ move t (1 ∷ []) $ fsplit t $ drop t $ fsplit t $
+        drop t $ fsplit t $ fsplit t $ drop t $
         fsplit t $ move t (5 ∷ []) $ split t $ move t (1 ∷ 4 ∷ 2 ∷ 3 ∷ 0 ∷ 6 ∷ 5 ∷ []) $ drop t $ drop t $ z)
 
     -- at exit, with a last list as long as the first
-    pub together : K → (l : List (E .Denot)) → length l ≡ length (d .xs) → Rule K W (entry 𝓤 d l ++ Γ) G (shut 𝓤 d l ++ Γ) G
+    pub together : K → (l : List (E .Denot)) → length l ≡ length (d .xs)
+        → Rule K W (entry 𝓤 d l ++ Γ) G (shut 𝓤 d l ++ Γ) G
     together t l kept = step (λ z. fjoin t $
         pureI t (at-slice E (out d l) (vl d ∷ [])) (tt, (tt, tt))
         (ap (λ (m : ℕ). sliceVal (d .b, d .o) m ∷ []) (sym kept), subst (Room E) (sym kept) (d .room)) $ fjoin t $
-        nothing t $ move t (1 ∷ 0 ∷ []) $ fjoin t $ owned t u32 (Is u32) (uint-makes 𝓤 H A W w32) (d .hi) _ (refl, d .hi-fits) $ fjoin t $
-        owned t u32 (Is u32) (uint-makes 𝓤 H A W w32) (d .lo) _ (refl, d .lo-fits) $ fjoin t $ move t (3 ∷ 0 ∷ []) $ fjoin t $
-        owned t bool (Is bool) (bool-makes 𝓤 H A W) (d .on) _ refl $ fjoin t $ nothing t $ move t (2 ∷ 0 ∷ []) $ join t $ move t (2 ∷ 0 ∷ []) $ join t $ z)
+        nothing t $ move t (1 ∷ 0 ∷ []) $ fjoin t $ owned t u32 (Is u32) (uint-makes 𝓤 H A W w32) (d .hi) _
+        (refl, d .hi-fits) $ fjoin t $
+        owned t u32 (Is u32) (uint-makes 𝓤 H A W w32) (d .lo) _ (refl, d .lo-fits) $ fjoin t $ move t (3 ∷ 0 ∷ []) $
+        fjoin t $
+        owned t bool (Is bool) (bool-makes 𝓤 H A W) (d .on) _ refl $ fjoin t $ nothing t $ move t (2 ∷ 0 ∷ []) $
+        join t $ move t (2 ∷ 0 ∷ []) $ join t $ z)
 
   -- what a callee is handed that takes the mark, the table, the window and one value more: a copy of what the table owns, and
   -- what the others own, made anew, beside what the callee requires
-  pub handed : (R : RattleType) (y : R .Denot) (u : Val) → Makes 𝓤 H A R (Is R) → Is R y (u ∷ []) → (P : SProp 𝓤) → ent 𝓤 (emp 𝓤) P
+  pub handed : (R : RattleType) (y : R .Denot) (u : Val) → Makes 𝓤 H A R (Is R) → Is R y (u ∷ []) → (P : SProp 𝓤)
+      → ent 𝓤 (emp 𝓤) P
       → ent 𝓤 (⋆ 𝓤 H A (‵ (flft (d .κ₀) (d .q₀)) ∷ ‵ (Own d) ∷ []))
-      (⋆ 𝓤 H A ((((‵ (flft (d .κ₀) (d .q₀)) ⊛ ‵ ftrue) ⊛ ‵ (owns (rows d R) (with d y) (spelled d u))) ⊛ raw P) ∷ ‵ (Own d) ∷ []))
+      (⋆ 𝓤 H A ((((‵ (flft (d .κ₀) (d .q₀)) ⊛ ‵ ftrue) ⊛ ‵ (owns (rows d R) (with d y) (spelled d u))) ⊛ raw P) ∷ ‵
+      (Own d) ∷ []))
   handed R y u makes is P h =
       qed W (‵ (flft (d .κ₀) (d .q₀)) ∷ ‵ (Own d) ∷ []) ∵ move ! (1 ∷ []) $
       use1 W (‵ (Own d) ⊛ ‵ (Own d)) (shr-slice-copy 𝓤 H A W (named 0) (d .κ₀) u8 .twice (d .s) (v d ∷ [])) $ split ! $
-      nothing ! $ owned ! R (Is R) makes y _ is $ fjoin ! $ owned ! u32 (Is u32) (uint-makes 𝓤 H A W w32) (d .hi) _ (refl, d .hi-fits) $ fjoin ! $
-      owned ! u32 (Is u32) (uint-makes 𝓤 H A W w32) (d .lo) _ (refl, d .lo-fits) $ fjoin ! $ move ! (1 ∷ 0 ∷ []) $ fjoin ! $
-      owned ! bool (Is bool) (bool-makes 𝓤 H A W) (d .on) _ refl $ fjoin ! $ nothing ! $ move ! (3 ∷ 0 ∷ []) $ join ! $ join ! $
+      nothing ! $ owned ! R (Is R) makes y _ is $ fjoin ! $ owned ! u32 (Is u32) (uint-makes 𝓤 H A W w32) (d .hi) _
+      (refl, d .hi-fits) $ fjoin ! $
+      owned ! u32 (Is u32) (uint-makes 𝓤 H A W w32) (d .lo) _ (refl, d .lo-fits) $ fjoin ! $ move ! (1 ∷ 0 ∷ []) $
+      fjoin ! $
+      owned ! bool (Is bool) (bool-makes 𝓤 H A W) (d .on) _ refl $ fjoin ! $ nothing ! $ move ! (3 ∷ 0 ∷ []) $ join ! $
+      join ! $
       use0 W (raw P) h $ move ! (1 ∷ 0 ∷ []) $ join ! $ frame ! $ done !

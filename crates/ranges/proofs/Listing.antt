@@ -59,19 +59,20 @@ module _ {present : Bool} {s : List ℕ} {a b : ℕ} where
       lists-split = sym (g .same) ∙ u .head
 
   -- a piece pulled
-  module _ {p : Span} (w : Ahead present s a b p) {q : MappedPiece} {n : ℕ} (f : Found present s a b (p .first) q n) where
-    fit-here : allFit (q ∷ left present s a b n) ≡ true
-    fit-here = rw (f .first) at (w .fit)
+  module _ {p : Span} (w : Ahead present s a b p) {q : MappedPiece} {n : ℕ} (f : Found present s a b (p .first) q n)
+    where
+      fit-here : allFit (q ∷ left present s a b n) ≡ true
+      fit-here = rw (f .first) at (w .fit)
 
-    pub pulled-fits : (q .to ≤ 4294967295) × (besideStart q ≤ 4294967295)
-    pulled-fits = fits-shown q (first-fits q (left present s a b n) fit-here)
+      pub pulled-fits : (q .to ≤ 4294967295) × (besideStart q ≤ 4294967295)
+      pulled-fits = fits-shown q (first-fits q (left present s a b n) fit-here)
 
-    pub pulled : Pulled present s a b p (record { piece = asPiece q; rest = record { first = n; last = p .last } })
-    pulled = record {
-      head = ap (map asPiece) (f .first);
-      bounded = w .bounded;
-      fit = others-fit q (left present s a b n) fit-here;
-    }
+      pub pulled : Pulled present s a b p (record { piece = asPiece q; rest = record { first = n; last = p .last } })
+      pulled = record {
+        head = ap (map asPiece) (f .first);
+        bounded = w .bounded;
+        fit = others-fit q (left present s a b n) fit-here;
+      }
 
 pub to-list-out : (present : Bool) (s : List ℕ) (a b : ℕ) (out : List Piece)
     → writtenOver (map asPiece (toWrite present s a b (length out))) out ≡ listOut present s a b out

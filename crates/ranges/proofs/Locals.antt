@@ -35,11 +35,13 @@ module _ {M : Type 1} {𝓤 : URA M} {H : Heap 𝓤} {A : Atoms 𝓤} {K : Type 
   abbrev swap : {G : Goal 𝓤 H} (Δ Γ : List (Item 𝓤)) → Rule K W (Γ ++ Δ) G (Δ ++ Γ) G
   swap Δ Γ = step (λ s. record {
     prf = via 𝓤 (sep 𝓤 (⋆ 𝓤 H A Δ) (⋆ 𝓤 H A Γ)) (⊢++ 𝓤 H A Δ Γ)
-        (via 𝓤 (sep 𝓤 (⋆ 𝓤 H A Γ) (⋆ 𝓤 H A Δ)) (comm∗ 𝓤 (⋆ 𝓤 H A Δ) (⋆ 𝓤 H A Γ)) (via 𝓤 (⋆ 𝓤 H A (Γ ++ Δ)) (++⊢ 𝓤 H A Γ Δ) (s .prf)));
+        (via 𝓤 (sep 𝓤 (⋆ 𝓤 H A Γ) (⋆ 𝓤 H A Δ)) (comm∗ 𝓤 (⋆ 𝓤 H A Δ) (⋆ 𝓤 H A Γ))
+        (via 𝓤 (⋆ 𝓤 H A (Γ ++ Δ)) (++⊢ 𝓤 H A Γ Δ) (s .prf)));
   })
 
   -- an entry behind Δ is brought to the front
-  ahead : {G : Goal 𝓤 H} (Δ : List (Item 𝓤)) (i : Item 𝓤) (Γ : List (Item 𝓤)) → Rule K W (i ∷ (Δ ++ Γ)) G (Δ ++ (i ∷ Γ)) G
+  ahead : {G : Goal 𝓤 H} (Δ : List (Item 𝓤)) (i : Item 𝓤) (Γ : List (Item 𝓤))
+      → Rule K W (i ∷ (Δ ++ Γ)) G (Δ ++ (i ∷ Γ)) G
   ahead Δ i Γ =
       let P = ⋆ 𝓤 H A Δ in
       let Q = mean 𝓤 H A i in
@@ -48,7 +50,8 @@ module _ {M : Type 1} {𝓤 : URA M} {H : Heap 𝓤} {A : Atoms 𝓤} {K : Type 
         prf = via 𝓤 (sep 𝓤 P (⋆ 𝓤 H A (i ∷ Γ))) (⊢++ 𝓤 H A Δ (i ∷ Γ))
             (via 𝓤 (sep 𝓤 P (sep 𝓤 Q R)) (monoR 𝓤 P (pop 𝓤 H A i Γ))
             (via 𝓤 (sep 𝓤 (sep 𝓤 Q P) R) (via 𝓤 (sep 𝓤 (sep 𝓤 P Q) R) (assoc′ 𝓤 P Q R) (monoL 𝓤 R (comm∗ 𝓤 P Q)))
-            (via 𝓤 (sep 𝓤 Q (⋆ 𝓤 H A (Δ ++ Γ))) (via 𝓤 (sep 𝓤 Q (sep 𝓤 P R)) (assoc∗ 𝓤 Q P R) (monoR 𝓤 Q (++⊢ 𝓤 H A Δ Γ)))
+            (via 𝓤 (sep 𝓤 Q (⋆ 𝓤 H A (Δ ++ Γ))) (via 𝓤 (sep 𝓤 Q (sep 𝓤 P R)) (assoc∗ 𝓤 Q P R)
+            (monoR 𝓤 Q (++⊢ 𝓤 H A Δ Γ)))
             (via 𝓤 (⋆ 𝓤 H A (i ∷ (Δ ++ Γ))) (push 𝓤 H A i (Δ ++ Γ)) (s .prf)))));
       })
 
@@ -57,7 +60,8 @@ module _ {M : Type 1} {𝓤 : URA M} {H : Heap 𝓤} {A : Atoms 𝓤} {K : Type 
   room-all t [] k = alloc0 t $ k tt
   room-all t (local τ h ∷ ls) {Γ} k =
       alloc1 t (λ b. room-all t ls (λ bs.
-      ahead (held 𝓤 ls bs []) (‵ (froom τ b zero)) (‵ (fdies τ b) ∷ Γ) $ ahead (‵ (froom τ b zero) ∷ held 𝓤 ls bs []) (‵ (fdies τ b)) Γ $
+      ahead (held 𝓤 ls bs []) (‵ (froom τ b zero)) (‵ (fdies τ b) ∷ Γ) $ ahead (‵ (froom τ b zero) ∷ held 𝓤 ls bs [])
+      (‵ (fdies τ b)) Γ $
       move t (1 ∷ 0 ∷ []) $ k (b, bs)))
 
   -- all locals are allocated
@@ -82,25 +86,32 @@ module _ {M : Type 1} {𝓤 : URA M} {H : Heap 𝓤} {A : Atoms 𝓤} {K : Type 
 abbrev pub holds : {M : Type 1} (𝓤 : URA M) (H : Heap 𝓤) → Env 𝓤 H → ℕ → Val → Item 𝓤
 holds 𝓤 H E i v = ‵ (fat fullShare (spotOf 𝓤 H E i .0) (spotOf 𝓤 H E i .1) (spotOf 𝓤 H E i .2) v)
 
-module _ {M : Type 1} {𝓤 : URA M} {H : Heap 𝓤} {A : Atoms 𝓤} {K : Type 0} {W : Given 𝓤 H A} {Γ : List (Item 𝓤)} {E : Env 𝓤 H} {i : ℕ} where
+module _ {M : Type 1} {𝓤 : URA M} {H : Heap 𝓤} {A : Atoms 𝓤} {K : Type 0} {W : Given 𝓤 H A} {Γ : List (Item 𝓤)}
+    {E : Env 𝓤 H} {i : ℕ} where
   -- what local i holds, entry n of the context
-  pub get : K → (n : ℕ) {q : Share} {v : Val} → nth 𝓤 H A n Γ ≡ ‵ (fat q (spotOf 𝓤 H E i .0) (spotOf 𝓤 H E i .1) (spotOf 𝓤 H E i .2) v)
+  pub get : K → (n : ℕ) {q : Share} {v : Val}
+      → nth 𝓤 H A n Γ ≡ ‵ (fat q (spotOf 𝓤 H E i .0) (spotOf 𝓤 H E i .1) (spotOf 𝓤 H E i .2) v)
       → Opd K W Γ E (copy (place i [])) v
   get t n e = load t (from t (stop t)) (look t n e)
 
   -- field k of it
   pub get-field : K → (n : ℕ) {k : ℕ} {q : Share} {ν : Sym} {τs : Tys} {vs : FieldVals} {τ : Ty} {d : ℕ}
-      → nth 𝓤 H A n Γ ≡ ‵ (fat q (tyStruct ν τs) (spotOf 𝓤 H E i .1) (spotOf 𝓤 H E i .2) (vstruct vs)) → fieldAt zero τs k ≡ some (τ, d)
+      → nth 𝓤 H A n Γ ≡ ‵ (fat q (tyStruct ν τs) (spotOf 𝓤 H E i .1) (spotOf 𝓤 H E i .2) (vstruct vs))
+      → fieldAt zero τs k ≡ some (τ, d)
       → fieldOf (spotOf 𝓤 H E i .0) k ≡ some (τ, d) → Opd K W Γ E (copy (place i (field k ∷ []))) (getV vs k)
   get-field t n {k} {q} {ν} {τs} {vs} {τ} {d} e f g =
       let b : ℕ = spotOf 𝓤 H E i .1 in
       let o : ℕ = spotOf 𝓤 H E i .2 in
       let back : Val → Item 𝓤 = λ u. ‵ (fat q (tyStruct ν τs) b o u) in
       load t (from t (fld t g (stop t)))
-      (look-in t n (sub t k f (subst (λ (j : Item 𝓤). Part K W j q (tyStruct ν τs) b o (vstruct vs) back) (sym e) (whole t))))
+      (look-in t n (sub t k f (subst (λ (j : Item 𝓤). Part K W j q (tyStruct ν τs) b o (vstruct vs) back) (sym e)
+      (whole t))))
 
   -- it gets its first value
-  pub puts : K → {C : Calls 𝓤 H} {Λ : Loops 𝓤 H} {q : Posts 𝓤 H} {rv : RValue} {rest : Body} {v : Val} → Rv K W Γ E rv v → (n : ℕ)
-      → nth 𝓤 H A n Γ ≡ ‵ (froom (spotOf 𝓤 H E i .0) (spotOf 𝓤 H E i .1) (spotOf 𝓤 H E i .2)) → Holds (hasTy (spotOf 𝓤 H E i .0) v) × WT v
-      → Rule K W (put 𝓤 H A n (holds 𝓤 H E i v) Γ) (runs C Λ E rest q) Γ (runs C Λ E (seq (assign (place i []) rv) rest) q)
+  pub puts : K → {C : Calls 𝓤 H} {Λ : Loops 𝓤 H} {q : Posts 𝓤 H} {rv : RValue} {rest : Body} {v : Val} → Rv K W Γ E rv v
+      → (n : ℕ)
+      → nth 𝓤 H A n Γ ≡ ‵ (froom (spotOf 𝓤 H E i .0) (spotOf 𝓤 H E i .1) (spotOf 𝓤 H E i .2))
+      → Holds (hasTy (spotOf 𝓤 H E i .0) v) × WT v
+      → Rule K W (put 𝓤 H A n (holds 𝓤 H E i v) Γ) (runs C Λ E rest q) Γ
+      (runs C Λ E (seq (assign (place i []) rv) rest) q)
   puts t r n e wt = assigns t r (from t (stop t)) (init t n e wt)

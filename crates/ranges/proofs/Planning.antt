@@ -48,7 +48,8 @@ all-written (refusedFor n k) l h = absurd (omega arith)
 
 -- the pieces to write, as entries, give the whole output
 pub entries-out : {A : Type 0} (entries : List MappedPiece → List A) → entries [] ≡ []
-    → (w : Window) (l : List MappedPiece) (out : List A) → writtenOver (entries (ifCounted w l)) out ≡ outAfter w (entries l) out
+    → (w : Window) (l : List MappedPiece) (out : List A) → writtenOver (entries (ifCounted w l)) out ≡ outAfter w
+    (entries l) out
 entries-out entries e (counted n) l out = refl
 entries-out entries e (refusedAs n) l out = rw e
 entries-out entries e (refusedFor n k) l out = rw e

@@ -18,14 +18,15 @@ pub use base.Fml.{Share, Fml, fat, froom, fdies, Lft, GName, ftrue, flft, fobs, 
 pub use base.Logic.{ent, sep, via, comm∗, assoc∗, assoc′, monoL, monoR, id⊢, exE, snd∗, fst∗, SProp, emp}
 pub use base.Stored.{Gv}
 pub use prog.Memory.{fieldAt, fieldOf, Memory}
-pub use prog.Routine.{Routine}
-pub use prog.Wp.{Heap, Env, Calls, Loops, spotOf, WpFn, Tables, Out, afterSeq, afterBlock, Wp, atReturn}
+pub use prog.Model.{Model}
+pub use prog.Routine.{Routine, Env as Routines}
+pub use prog.Wp.{Heap, Env, Calls, Loops, spotOf, WpFn, Tables, Out, afterSeq, afterBlock, Wp, atReturn, Closed}
 unfoldable pub use prog.Wp.{afterTurn}
 pub use ghost.Atoms.{Atoms, sem}
 pub use sound.WpLaws.{FmC, WpFn-mono, fmOf}
 pub use contract.Lifetimes.{Lfts, Shares, AllOutlive}
 pub use contract.Monad.{fact, Fun, factI}
-pub use contract.Running.{givenOf, tables}
+pub use contract.Running.{GhostRules, Running, givenOf, tables}
 unfoldable pub use contract.Running.{tablesOf}
 pub use types.Kit.{Given, Item, ‵, mean, ⋆, push, pop, ++⊢, ⊢++, nth, put, Post as Posts, Goal, runs, allocs, frees, Seq, Step as Rule}
 pub use types.Kit.{step, _$_, move, raw, _⊛_, later, lands, use1, split, pick, await, _∵_, !, qed, drop, use0, join}

@@ -37,7 +37,8 @@ module _ {A S : Type 0} {Gives : S → List A → Type 0} {out₀ final : List A
   pub nearer-wf : WellFounded Nearer
   nearer-wf = InvImage·wf (λ (w : Writing Gives out₀ final n). n - w .k) (Nat·lt-wfRel .wf)
 
-  abbrev pub writing-first : (at : S) (left : List A) → (0 < length left → Gives at left) → n ≡ length left → n ≤ length out₀
+  abbrev pub writing-first : (at : S) (left : List A) → (0 < length left → Gives at left) → n ≡ length left
+      → n ≤ length out₀
       → writtenOver left out₀ ≡ final → Writing Gives out₀ final n
   writing-first at left g e h q = record {
     out = out₀;

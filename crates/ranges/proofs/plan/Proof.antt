@@ -39,7 +39,8 @@ returns c =
     let a = k .before .before .before .before .args in
     let s = now (a .table) in
     let why = k .counted .given .0 .0 in
-    let e = was-refused (a .present) s (a .a) (a .b) (number why) (sym (ap toldCounted (k .counted .given .1)) ∙ k .before .before .count .ensures) in
+    let e = was-refused (a .present) s (a .a) (a .b) (number why) (sym (ap toldCounted (k .counted .given .1)) ∙ k
+    .before .before .count .ensures) in
     rw (c .idle .ensures)
     (plan-idle (windowed.Refused why) (answer-refused (a .present) s (a .a) (a .b) (a .room) (number why) e) refl)
 
@@ -48,7 +49,8 @@ returns-2 c =
     let k = c .before in
     let a = k .before .before .before .before .args in
     let s = now (a .table) in
-    let e = was-refused (a .present) s (a .a) (a .b) 4 (sym (ap toldCounted (k .enum-told .given .1)) ∙ k .before .before .count .ensures) in
+    let e = was-refused (a .present) s (a .a) (a .b) 4 (sym (ap toldCounted (k .enum-told .given .1)) ∙ k .before
+    .before .count .ensures) in
     rw (c .idle2 .ensures)
     (plan-idle windowed.TooLarge (answer-refused (a .present) s (a .a) (a .b) (a .room) 4 e) refl)
 

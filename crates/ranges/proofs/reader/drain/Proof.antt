@@ -16,7 +16,7 @@ use words.{assigns, store, hop, lit, of-opd, and-then, no-more, bin, assigns-las
 use words.{leaves-loop, gives-back, enter, params1, pass1, pass0, exec, Below, again, loops, u8, u32, bool, usize}
 use words.{place-is, elem-out, elem-put, opens-slice, closes-slice, Is, shows, uint-vals, uint-tells, uint-makes}
 use words.{bool-makes, RattleType, now, NamedLft, namedLft, shr-slice-copy, shr-slice-lawful, peeks, owned, nothing}
-use words.{Clauses, Contract, Triple, entered, cited, walkOf, says, ends-at}
+use words.{Clauses, Contract, Triple, cited, walkOf, says, ends-at}
 use denote.Enum.Laws as EL
 use denote.Struct.Laws as LL
 use Rattle.omap.specs.Output.{windowOut}
@@ -85,7 +85,8 @@ module _ {M : Type 1} (𝓤 : URA M) (H : Heap 𝓤) (A : Atoms 𝓤) (W : Given
 
   abbrev Known : Tables 𝓤 H → Type 1
   Known 𝓣 =
-      Triple 𝓤 (𝓣 .C plan.Symbol.name) PlanAt × (Triple 𝓤 (𝓣 .C new.Symbol.name) NewAt × (Triple 𝓤 (𝓣 .C next.Symbol.name) NextAt
+      Triple 𝓤 (𝓣 .C plan.Symbol.name) PlanAt × (Triple 𝓤 (𝓣 .C new.Symbol.name) NewAt ×
+      (Triple 𝓤 (𝓣 .C next.Symbol.name) NextAt
       × (Triple 𝓤 (𝓣 .C taken.Symbol.name) TakenAt × Triple 𝓤 (𝓣 .C moved.Symbol.name) MovedAt)))
 
   abbrev Tok : Item 𝓤
@@ -119,15 +120,18 @@ module _ {M : Type 1} (𝓤 : URA M) (H : Heap 𝓤) (A : Atoms 𝓤) (W : Given
   to-plan = (((d .κ₀, tt), (d .q₀, tt), tt, with d (length (d .xs)), spelled d (vint w64 (length (d .xs)))), tt)
 
   abbrev to-new : Cursor → NewAt .Ghost
-  to-new c = (((d .κ₀, tt), (d .q₀, tt), tt, (d .on, (d .s, (c, tt))), (vbool (d .on) ∷ [], (v d ∷ [], (Cu.Laws.lowered c ∷ [], tt)))), tt)
+  to-new c =
+      (((d .κ₀, tt), (d .q₀, tt), tt, (d .on, (d .s, (c, tt))), (vbool (d .on) ∷ [], (v d ∷ [], (Cu.Laws.lowered c ∷ [], tt)))), tt)
 
   goes-new : (c : Cursor) → Is Cu.the-row c (Cu.Laws.lowered c ∷ [])
       → ent 𝓤 (⋆ 𝓤 H A (Tok ∷ ‵ (Own d) ∷ [])) (⋆ 𝓤 H A (raw (NewAt .pre (to-new c)) ∷ ‵ (Own d) ∷ []))
   goes-new c pc =
       qed W (Tok ∷ ‵ (Own d) ∷ []) ∵ move ! (1 ∷ []) $
       use1 W (‵ (Own d) ⊛ ‵ (Own d)) (shr-slice-copy 𝓤 H A W (named 0) (d .κ₀) u8 .twice (d .s) (v d ∷ [])) $ split ! $
-      nothing ! $ owned ! Cu.the-row (Is Cu.the-row) (LL.makes Cu.the-type Cu.Laws.the-plain 𝓤 H A) c _ pc $ fjoin ! $ move ! (1 ∷ 0 ∷ []) $ fjoin ! $
-      owned ! bool (Is bool) (bool-makes 𝓤 H A W) (d .on) _ refl $ fjoin ! $ nothing ! $ move ! (3 ∷ 0 ∷ []) $ join ! $ join ! $
+      nothing ! $ owned ! Cu.the-row (Is Cu.the-row) (LL.makes Cu.the-type Cu.Laws.the-plain 𝓤 H A) c _ pc $ fjoin ! $
+      move ! (1 ∷ 0 ∷ []) $ fjoin ! $
+      owned ! bool (Is bool) (bool-makes 𝓤 H A W) (d .on) _ refl $ fjoin ! $ nothing ! $ move ! (3 ∷ 0 ∷ []) $ join ! $
+      join ! $
       nothing ! $ move ! (1 ∷ 0 ∷ []) $ join ! $ frame ! $ done !
 
   abbrev to-next : Cursor → NextAt .Ghost
@@ -135,24 +139,29 @@ module _ {M : Type 1} (𝓤 : URA M) (H : Heap 𝓤) (A : Atoms 𝓤) (W : Given
 
   goes-next : (c : Cursor) → ent 𝓤 (⋆ 𝓤 H A (OwnR (rd c) ∷ Tok ∷ [])) (NextAt .pre (to-next c))
   goes-next c =
-      qed W (OwnR (rd c) ∷ Tok ∷ []) ∵ nothing ! $ move ! (1 ∷ 0 ∷ []) $ fjoin ! $ nothing ! $ move ! (2 ∷ 0 ∷ []) $ join ! $
+      qed W (OwnR (rd c) ∷ Tok ∷ []) ∵ nothing ! $ move ! (1 ∷ 0 ∷ []) $ fjoin ! $ nothing ! $ move ! (2 ∷ 0 ∷ []) $
+      join ! $
       join ! $ frame ! $ done !
 
   abbrev to-taken : Step → TakenAt .Ghost
   to-taken z = ((tt, tt, tt, (z, tt), (S.Laws.lowered z ∷ [], tt)), tt)
 
-  goes-taken : (z : Step) → ent 𝓤 (⋆ 𝓤 H A (‵ (S.the-row .own z (S.Laws.lowered z ∷ [])) ∷ [])) (TakenAt .pre (to-taken z))
+  goes-taken : (z : Step)
+      → ent 𝓤 (⋆ 𝓤 H A (‵ (S.the-row .own z (S.Laws.lowered z ∷ [])) ∷ [])) (TakenAt .pre (to-taken z))
   goes-taken z =
-      qed W (‵ (S.the-row .own z (S.Laws.lowered z ∷ [])) ∷ []) ∵ nothing ! $ move ! (1 ∷ 0 ∷ []) $ fjoin ! $ nothing ! $ join ! $
+      qed W (‵ (S.the-row .own z (S.Laws.lowered z ∷ [])) ∷ []) ∵ nothing ! $ move ! (1 ∷ 0 ∷ []) $ fjoin ! $
+      nothing ! $ join ! $
       frame ! $ done !
 
   abbrev to-moved : Cursor → Cursor → MovedAt .Ghost
-  to-moved c e = (((d .κ₀, tt), (d .q₀, tt), tt, (rd c, (e, tt)), (T.Laws.lowered (rd c) ∷ [], (Cu.Laws.lowered e ∷ [], tt))), tt)
+  to-moved c e =
+      (((d .κ₀, tt), (d .q₀, tt), tt, (rd c, (e, tt)), (T.Laws.lowered (rd c) ∷ [], (Cu.Laws.lowered e ∷ [], tt))), tt)
 
   goes-moved : (c e : Cursor) → Is Cu.the-row e (Cu.Laws.lowered e ∷ [])
       → ent 𝓤 (⋆ 𝓤 H A (OwnR (rd c) ∷ Tok ∷ [])) (MovedAt .pre (to-moved c e))
   goes-moved c e pe =
-      qed W (OwnR (rd c) ∷ Tok ∷ []) ∵ nothing ! $ owned ! Cu.the-row (Is Cu.the-row) (LL.makes Cu.the-type Cu.Laws.the-plain 𝓤 H A) e _ pe $ fjoin ! $ move ! (1 ∷ 0 ∷ []) $ fjoin ! $
+      qed W (OwnR (rd c) ∷ Tok ∷ []) ∵ nothing ! $ owned ! Cu.the-row (Is Cu.the-row)
+      (LL.makes Cu.the-type Cu.Laws.the-plain 𝓤 H A) e _ pe $ fjoin ! $ move ! (1 ∷ 0 ∷ []) $ fjoin ! $
       nothing ! $ move ! (2 ∷ 0 ∷ []) $ join ! $ join ! $ frame ! $ done !
 
   -- ---- the function's own contract, and the loop's states where it writes n numbers
@@ -171,7 +180,8 @@ module _ {M : Type 1} (𝓤 : URA M) (H : Heap 𝓤) (A : Atoms 𝓤) (W : Given
   abbrev Plans : DrainPlan → Type 0
   Plans = DrainPlanned (d .on) (now (d .s)) (d .lo) (d .hi) (length (d .xs))
 
-  returns : (t : DrainPlan) → Plans t → Is F.the-row (t .answer) (F.Laws.lowered (t .answer) ∷ []) → (w : State (t .numbers))
+  returns : (t : DrainPlan) → Plans t → Is F.the-row (t .answer) (F.Laws.lowered (t .answer) ∷ [])
+      → (w : State (t .numbers))
       → t .numbers ≤ w .k → ent 𝓤 (⋆ 𝓤 H A (shut 𝓤 d (w .out))) (Post (F.Laws.lowered (t .answer)))
   returns t p is w all =
       qed W (shut 𝓤 d (w .out)) ∵
@@ -204,7 +214,8 @@ module _ {M : Type 1} (𝓤 : URA M) (H : Heap 𝓤) (A : Atoms 𝓤) (W : Given
     -- the values of _0 to _12
     abbrev values : Option Val → State n → Option Val → List (Option Val)
     values r w z =
-        params d r (some (K.Laws.lowered t) ∷ some (vint w64 n) ∷ some (T.Laws.lowered (rd (w .at))) ∷ some (vint w64 (w .k))
+        params d r (some (K.Laws.lowered t) ∷ some (vint w64 n) ∷ some (T.Laws.lowered (rd (w .at))) ∷ some
+        (vint w64 (w .k))
         ∷ none ∷ some (vint w64 (length (d .xs))) ∷ z ∷ [])
 
     abbrev At : State n → List (Item 𝓤)
@@ -231,7 +242,8 @@ module _ {M : Type 1} (𝓤 : URA M) (H : Heap 𝓤) (A : Atoms 𝓤) (W : Given
         puts ! (bin ! (get ! 25 refl) (get ! 21 refl) tt) 31 refl (tt, tt) $
         rewrite ! 31 (λ (z : Bool). holds 𝓤 H En 12 (vbool z)) e refl $ stays ! (get ! 31 refl) $ move ! (6 ∷ []) $
         peeks ! R (Is R) (shows 𝓤 H A R) r (T.Laws.lowered r ∷ []) (λ is-r.
-        use1 W (OwnR r ⊛ OwnR r) (LL.copy (T.the-type α) (T.Laws.the-copy α) 𝓤 H A W .twice r (T.Laws.lowered r ∷ [])) $ split ! $
+        use1 W (OwnR r ⊛ OwnR r) (LL.copy (T.the-type α) (T.Laws.the-copy α) 𝓤 H A W .twice r (T.Laws.lowered r ∷ []))
+        $ split ! $
         -- [what the reader owns; the same; the row; the open borrow; obs; auth; table's token; what table owns; _0; …]: `next`
         puts ! (of-opd ! (get ! 24 refl)) 36 refl (typed r is-r) $ move ! (0 ∷ 6 ∷ []) $
         use2 W (raw (NextAt .pre (to-next (w .at)))) (goes-next (w .at)) $
@@ -245,10 +257,12 @@ module _ {M : Type 1} (𝓤 : URA M) (H : Heap 𝓤) (A : Atoms 𝓤) (W : Given
         (λ x. x ≡ asTaken (toldStep z)) (λ x ws. id⊢ 𝓤 _) Tn.Laws.lowered (Tn.Laws.the-field-laws .low-is)
         (and-then ! (get ! 34 refl) (no-more !)) (λ x e₂ is₂.
         let f = taken-from (writing-on w less) (some-left w less) (e₂ ∙ ap asTaken e₁) in
-        let two = two-left (w .k) _ (length (f .on)) n (length (d .xs)) (w .number) (ap length (f .split)) (p .enough) in
+        let two = two-left (w .k) _ (length (f .on)) n (length (d .xs)) (w .number) (ap length (f .split))
+        (p .enough) in
         let in₀ : w .k < length (w .out) = within (w .k) (length (d .xs)) _ two (w .kept) .0 in
         let once : List ℕ = set (w .out) (w .k) (x .start) in
-        let in₁ : w .k + 1 < length once = within (w .k) (length (d .xs)) _ two (length-set (w .out) (w .k) (x .start) ∙ w .kept) .1 in
+        let in₁ : w .k + 1 < length once = within (w .k) (length (d .xs)) _ two
+        (length-set (w .out) (w .k) (x .start) ∙ w .kept) .1 in
         let here = within (w .k) (length (d .xs)) (length (d .xs)) two refl in
         let place₀ : w .k * 4 < 2 ^ 64 = scaled (w .k) (length (d .xs)) (here .0) (d .room .1) in
         let place₁ : (w .k + 1) * 4 < 2 ^ 64 = scaled (w .k + 1) (length (d .xs)) (here .1) (d .room .1) in
@@ -256,12 +270,15 @@ module _ {M : Type 1} (𝓤 : URA M) (H : Heap 𝓤) (A : Atoms 𝓤) (W : Given
         let fields = LL.owed Tn.the-type Tn.Laws.the-laws x _ is₂ in
         let start-fits : x .start < 2 ^ 32 = fields .0 .1 in
         let end-fits : x .end < 2 ^ 32 = fields .1 .0 .1 in
-        drop ! $ drop ! $ land ! (from ! (stop !)) (init ! 27 refl (LL.lawful Tn.the-type Tn.Laws.the-laws 𝓤 H A W .typed x _ is₂ .0)) $
+        drop ! $ drop ! $ land ! (from ! (stop !)) (init ! 27 refl (LL.lawful Tn.the-type Tn.Laws.the-laws 𝓤 H A W
+        .typed x _ is₂ .0)) $
         -- [table's token; what the reader owns; the row; the open borrow; obs; auth; what table owns; _0; …]: out[k]
         puts ! (bin ! (get ! 25 refl) (lit ! tt) (record { fits = place₀ })) 37 refl (tt, record { fits = place₀ }) $
         puts ! (bin ! (get-field ! 17 refl refl refl) (get ! 37 refl) tt) 39 refl (tt, tt) $
-        rewrite ! 39 (λ (i : ℕ). holds 𝓤 H En 16 (vptr (d .b) i)) (sym (place-is 4 (d .o) (w .k))) refl $ move ! (2 ∷ []) $
-        elem-out ! u32 (Is u32) (shows 𝓤 H A u32) (uint-vals w32) (uint-tells w32) fullShare (w .out) (w .k) 0 (d .b) (d .o) in₀ (λ _.
+        rewrite ! 39 (λ (i : ℕ). holds 𝓤 H En 16 (vptr (d .b) i)) (sym (place-is 4 (d .o) (w .k))) refl $
+        move ! (2 ∷ []) $
+        elem-out ! u32 (Is u32) (shows 𝓤 H A u32) (uint-vals w32) (uint-tells w32) fullShare (w .out) (w .k) 0 (d .b)
+        (d .o) in₀ (λ _.
         -- [out[k]; what it owns; the others; table's token; what the reader owns; the open borrow; obs; auth; what table owns; _0; …]
         assigns ! (of-opd ! (get-field ! 29 refl refl refl)) (from ! (hop ! (look ! 41 refl) (stop !)))
         (store ! 0 refl (tt, record { fits = start-fits })) $ move ! (1 ∷ []) $ drop ! $
@@ -273,7 +290,8 @@ module _ {M : Type 1} (𝓤 : URA M) (H : Heap 𝓤) (A : Atoms 𝓤) (W : Given
         puts ! (bin ! (get ! 37 refl) (lit ! tt) (record { fits = place₁ })) 41 refl (tt, record { fits = place₁ }) $
         puts ! (bin ! (get-field ! 17 refl refl refl) (get ! 41 refl) tt) 43 refl (tt, tt) $
         rewrite ! 43 (λ (i : ℕ). holds 𝓤 H En 18 (vptr (d .b) i)) (sym (place-is 4 (d .o) (w .k + 1))) refl $
-        elem-out ! u32 (Is u32) (shows 𝓤 H A u32) (uint-vals w32) (uint-tells w32) fullShare once (w .k + 1) 0 (d .b) (d .o) in₁ (λ _.
+        elem-out ! u32 (Is u32) (shows 𝓤 H A u32) (uint-vals w32) (uint-tells w32) fullShare once (w .k + 1) 0 (d .b)
+        (d .o) in₁ (λ _.
         assigns ! (of-opd ! (get-field ! 29 refl refl refl)) (from ! (hop ! (look ! 45 refl) (stop !)))
         (store ! 0 refl (tt, record { fits = end-fits })) $ move ! (1 ∷ []) $ drop ! $
         owned ! u32 (Is u32) (uint-makes 𝓤 H A W w32) (x .end) _ (refl, end-fits) $ move ! (1 ∷ 0 ∷ []) $
@@ -282,7 +300,8 @@ module _ {M : Type 1} (𝓤 : URA M) (H : Heap 𝓤) (A : Atoms 𝓤) (W : Given
         puts ! (of-opd ! (get ! 23 refl)) 45 refl (typed r is-r) $ move ! (2 ∷ 1 ∷ []) $
         use2 W (raw (MovedAt .pre (to-moved (w .at) (x .next)))) (goes-moved (w .at) (x .next) (fields .1 .1 .0)) $
         hears ! fm moved.ended (moved.clauses 𝓤 H A mem run) (known .1 .1 .1 .1) (to-moved (w .at) (x .next)) Tok
-        (fst∗ 𝓤 _ (emp 𝓤)) (Made (x .next)) (λ q ws. id⊢ 𝓤 _) T.Laws.lowered (LL.tells (T.the-type α) (T.Laws.the-laws α))
+        (fst∗ 𝓤 _ (emp 𝓤)) (Made (x .next)) (λ q ws. id⊢ 𝓤 _) T.Laws.lowered
+        (LL.tells (T.the-type α) (T.Laws.the-laws α))
         (and-then ! (get ! 44 refl) (and-then ! (get-field ! 26 refl refl refl) (no-more !))) (λ q made is.
         -- [what the next reader owns; table's token; the row; the open borrow; obs; auth; what table owns; _0; …]
         land ! (from ! (stop !)) (store ! 23 refl (typed q is)) $
@@ -290,18 +309,23 @@ module _ {M : Type 1} (𝓤 : URA M) (H : Heap 𝓤) (A : Atoms 𝓤) (W : Given
         rewrite ! 0 OwnR (one-reader q (rd (x .next)) made) refl $
         assigns-last ! (bin ! (get ! 25 refl) (lit ! tt) (record { fits = k-fits .1 })) (from ! (stop !))
         (store ! 25 refl (tt, record { fits = k-fits .1 })) $ forget ! 27 refl $ forget ! 31 refl $ forget ! 33 refl $
-        forget ! 35 refl $ forget ! 37 refl $ forget ! 39 refl $ forget ! 41 refl $ forget ! 43 refl $ forget ! 45 refl $
+        forget ! 35 refl $ forget ! 37 refl $ forget ! 39 refl $ forget ! 41 refl $ forget ! 43 refl $
+        forget ! 45 refl $
         move ! (2 ∷ 3 ∷ 4 ∷ 5 ∷ 1 ∷ 6 ∷ 0 ∷ []) $
-        again ! Nearer At w (writing-two w (x .next) (λ _. f .yields) (x .start) (x .end) (f .split)) (nearer (w .k) n less)))))))
+        again ! Nearer At w (writing-two w (x .next) (λ _. f .yields) (x .start) (x .end) (f .split))
+        (nearer (w .k) n less)))))))
     turn-at w false e =
         puts ! (bin ! (get ! 25 refl) (get ! 21 refl) tt) 31 refl (tt, tt) $
         rewrite ! 31 (λ (z : Bool). holds 𝓤 H En 12 (vbool z)) e refl $ leaves-loop ! (get ! 31 refl) $
-        exec ! (𝓣 .C) (𝓣 .Λ) En code.Mir.t-7 (atRet En Post) $ closes-slice ! tt u32 (d .xs) (w .out) (w .kept) (d .b) (d .o) $
+        exec ! (𝓣 .C) (𝓣 .Λ) En code.Mir.t-7 (atRet En Post) $ closes-slice ! tt u32 (d .xs) (w .out) (w .kept) (d .b)
+        (d .o) $
         -- [obs; the borrow; out's token; table's token; what table owns; what the reader owns; _0; …]
         move ! (5 ∷ []) $ drop ! $ puts ! (of-opd ! (get-field ! 17 refl refl refl)) 5 refl
-        (EL.lawful F.the-type F.Laws.the-laws 𝓤 H A W tt .typed (t .answer) _ is-answer .0) $ gives-back ! (look ! 5 refl) $
+        (EL.lawful F.the-type F.Laws.the-laws 𝓤 H A W tt .typed (t .answer) _ is-answer .0) $
+        gives-back ! (look ! 5 refl) $
         free-all ! (code.function .locals) bs (values (some (F.Laws.lowered (t .answer))) w (some (vbool false)))
-        (shut 𝓤 d (w .out)) $ by ! (returns t p is-answer w (nltb→le (w .k) n (subst (λ (z : Bool). Holds (not z)) (sym e) tt)))
+        (shut 𝓤 d (w .out)) $ by ! (returns t p is-answer w (nltb→le (w .k) n
+        (subst (λ (z : Bool). Holds (not z)) (sym e) tt)))
 
     turns : (w : State n) → Sq W (At w) (runs (𝓣 .C) (𝓣 .Λ) En code.Mir.turn-1 (anyQ (Turned w)))
     turns w = turn-at w (ltb (w .k) n) refl
@@ -313,25 +337,32 @@ module _ {M : Type 1} (𝓤 : URA M) (H : Heap 𝓤) (A : Atoms 𝓤) (W : Given
       qed W (entry 𝓤 d (d .xs)) ∵ apart W d ! $ enter ! (𝓣 .C) (𝓣 .Λ) code.function (flatly d) _ $ alloc-all ! (λ bs.
       params1 ! $ pass1 ! (init ! 7 refl (tt, tt)) $
       pass1 ! (init ! 9 refl (shr-slice-lawful 𝓤 H A W (named 0) (d .κ₀) u8 .typed (d .s) (v d ∷ []) (d .is-s) .0)) $
-      pass1 ! (init ! 11 refl (tt, record { fits = d .lo-fits })) $ pass1 ! (init ! 13 refl (tt, record { fits = d .hi-fits })) $
+      pass1 ! (init ! 11 refl (tt, record { fits = d .lo-fits })) $ pass1 !
+      (init ! 13 refl (tt, record { fits = d .hi-fits })) $
       pass1 ! (init ! 15 refl (tt, (tt, (record { fits = d .room .0 }, tt)))) $ pass0 ! $
       -- [obs; the borrow; out's token; table's token; what table owns; _0; …]: `plan_drain`
-      puts ! (of-opd ! (get-field ! 15 refl refl refl)) 27 refl (tt, record { fits = d .room .0 }) $ move ! (3 ∷ 4 ∷ []) $
+      puts ! (of-opd ! (get-field ! 15 refl refl refl)) 27 refl (tt, record { fits = d .room .0 }) $
+      move ! (3 ∷ 4 ∷ []) $
       use2 W (raw (PlanAt .pre to-plan) ⊛ ‵ (Own d))
       (handed W d usize (length (d .xs)) _ (uint-makes 𝓤 H A W w64) (refl, d .room .0) _ (id⊢ 𝓤 (emp 𝓤))) $ split ! $
-      hears ! fm plan.ended (plan.clauses 𝓤 H A mem run) (known .0) to-plan Tok (fst∗ 𝓤 _ (emp 𝓤)) Plans (λ r ws. id⊢ 𝓤 _)
+      hears ! fm plan.ended (plan.clauses 𝓤 H A mem run) (known .0) to-plan Tok (fst∗ 𝓤 _ (emp 𝓤)) Plans
+      (λ r ws. id⊢ 𝓤 _)
       K.Laws.lowered (K.Laws.the-field-laws .low-is) (and-then ! (get ! 7 refl) (and-then ! (get ! 9 refl)
       (and-then ! (get ! 11 refl) (and-then ! (get ! 13 refl) (and-then ! (get ! 27 refl) (no-more !)))))) (λ t p is.
-      drop ! $ land ! (from ! (stop !)) (init ! 17 refl (LL.lawful K.the-type K.Laws.the-laws 𝓤 H A W .typed t _ is .0)) $
+      drop ! $ land ! (from ! (stop !)) (init ! 17 refl (LL.lawful K.the-type K.Laws.the-laws 𝓤 H A W .typed t _ is
+      .0)) $
       -- [table's token; what table owns; obs; the borrow; out's token; _0; …]: `new`
       puts ! (of-opd ! (get-field ! 17 refl refl refl)) 19 refl (tt, record { fits = n-fits 𝓣 known bs t p is }) $
-      use2 W (raw (NewAt .pre (to-new (t .cursor))) ⊛ ‵ (Own d)) (goes-new (t .cursor) (is-cursor 𝓣 known bs t p is)) $ split ! $
+      use2 W (raw (NewAt .pre (to-new (t .cursor))) ⊛ ‵ (Own d)) (goes-new (t .cursor) (is-cursor 𝓣 known bs t p is)) $
+      split ! $
       hears ! fm new.ended (new.clauses 𝓤 H A mem run) (known .1 .0) (to-new (t .cursor)) Tok (fst∗ 𝓤 _ (emp 𝓤))
       (Made (t .cursor)) (λ r ws. id⊢ 𝓤 _) T.Laws.lowered (LL.tells (T.the-type α) (T.Laws.the-laws α))
-      (and-then ! (get ! 7 refl) (and-then ! (get ! 9 refl) (and-then ! (get-field ! 17 refl refl refl) (no-more !)))) (λ r made is-r.
+      (and-then ! (get ! 7 refl) (and-then ! (get ! 9 refl) (and-then ! (get-field ! 17 refl refl refl) (no-more !))))
+      (λ r made is-r.
       -- [what the reader owns; table's token; what table owns; obs; the borrow; out's token; _0; …]
       land ! (from ! (stop !)) (init ! 22 refl (typed r is-r)) $
-      rewrite ! 22 (λ (q : RangeReader). holds 𝓤 H (En 𝓣 known bs t p is) 8 (T.Laws.lowered q)) (one-reader r (rd (t .cursor)) made) refl $
+      rewrite ! 22 (λ (q : RangeReader). holds 𝓤 H (En 𝓣 known bs t p is) 8 (T.Laws.lowered q))
+      (one-reader r (rd (t .cursor)) made) refl $
       rewrite ! 0 OwnR (one-reader r (rd (t .cursor)) made) refl $
       puts ! (of-opd ! (lit ! tt)) 24 refl (tt, record { fits = lit< tt }) $ move ! (3 ∷ 4 ∷ 5 ∷ 1 ∷ 2 ∷ 0 ∷ []) $
       opens-slice ! tt u32 (d .xs) (d .b) (d .o) $ first ! $ blocks ! $
@@ -342,20 +373,24 @@ unfolding code.routine tablesOf
 drain-spec 𝓤 H 𝓜 𝓖 𝓡 =
     let A = 𝓖 .A in
     let W = givenOf 𝓤 H 𝓜 𝓖 in
-    let c = drain.clauses 𝓤 H A (𝓜 .mem) (𝓡 .run) in
-    let 𝓣 = tables 𝓤 H 𝓜 𝓡 code.env in
-    entered 𝓤 H (Agreed 𝓤 H A drain.ended c) (𝓣 .C) (𝓣 .Λ) drain.Key.name code.function (code.unfolded 𝓤 H 𝓜 𝓡)
-    (by-hand 𝓤 H A W drain.ended (stayed u32) (gone u32 𝓤 H A W) c (tablesOf 𝓤 H 𝓜 𝓣) code.function (spelt u32) (tells u32)
-    (λ κs qs os a g are. walk 𝓤 H A W (𝓜 .mem) (𝓡 .run) (callOf u32 κs qs a are) (tablesOf 𝓤 H 𝓜 𝓣) (
-      cited 𝓤 H _ 𝓜 𝓡 code.env plan.Symbol.name plan.Symbol.routine code.calls-ranges·reader·plan-drain (plan.Met.met 𝓤 H 𝓜 𝓖 𝓡),
+    let E = u32 in
+    by-hand 𝓤 H 𝓜 𝓖 𝓡 drain.ended (drain.clauses 𝓤 H A (𝓜 .mem) (𝓡 .run)) code.env drain.Key.name code.function (stayed E) (spelt E)
+    (code.unfolded 𝓤 H 𝓜 𝓡) (gone E 𝓤 H A W) (tells E) (λ κs qs os a g are.
+    walk 𝓤 H A W (𝓜 .mem) (𝓡 .run) (callOf E κs qs a are) (tablesOf 𝓤 H 𝓜 (tables 𝓤 H 𝓜 𝓡 code.env)) (
+      cited 𝓤 H _ 𝓜 𝓡 code.env plan.Symbol.name plan.Symbol.routine code.calls-ranges·reader·plan-drain
+          (plan.Met.met 𝓤 H 𝓜 𝓖 𝓡),
       (
-        cited 𝓤 H _ 𝓜 𝓡 code.env new.Symbol.name new.Symbol.routine code.calls-ranges·reader·new (new.Met.met 𝓤 H 𝓜 𝓖 𝓡),
+        cited 𝓤 H _ 𝓜 𝓡 code.env new.Symbol.name new.Symbol.routine code.calls-ranges·reader·new
+            (new.Met.met 𝓤 H 𝓜 𝓖 𝓡),
         (
-          cited 𝓤 H _ 𝓜 𝓡 code.env next.Symbol.name next.Symbol.routine code.calls-ranges·reader·next (next.Met.met 𝓤 H 𝓜 𝓖 𝓡),
+          cited 𝓤 H _ 𝓜 𝓡 code.env next.Symbol.name next.Symbol.routine code.calls-ranges·reader·next
+              (next.Met.met 𝓤 H 𝓜 𝓖 𝓡),
           (
-            cited 𝓤 H _ 𝓜 𝓡 code.env taken.Symbol.name taken.Symbol.routine code.calls-ranges·reader·taken (taken.Met.met 𝓤 H 𝓜 𝓖 𝓡),
-            cited 𝓤 H _ 𝓜 𝓡 code.env moved.Symbol.name moved.Symbol.routine code.calls-ranges·reader·moved (moved.Met.met 𝓤 H 𝓜 𝓖 𝓡),
+            cited 𝓤 H _ 𝓜 𝓡 code.env taken.Symbol.name taken.Symbol.routine code.calls-ranges·reader·taken
+                (taken.Met.met 𝓤 H 𝓜 𝓖 𝓡),
+            cited 𝓤 H _ 𝓜 𝓡 code.env moved.Symbol.name moved.Symbol.routine code.calls-ranges·reader·moved
+                (moved.Met.met 𝓤 H 𝓜 𝓖 𝓡),
           ),
         ),
       ),
-    )))
+    ))
