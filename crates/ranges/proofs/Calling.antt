@@ -55,7 +55,7 @@ module _ {M : Type 1} {𝓤 : URA M} {H : Heap 𝓤} {A : Atoms 𝓤} {K : Type 
       await t tt $ pick t (λ r. split t $ move t (1 ∷ []) $
       use1 W (raw (fact 𝓤 (F r)))
       (exE 𝓤 _ (λ (ws : Lasts T κs a). via 𝓤 _ (snd∗ 𝓤 (sem 𝓤 H A (lasts T κs a ws)) _) (says r ws))) $
-      heard t (F r) (λ p. split t $ use1 W back toks $ move t (1 ∷ []) $ peeks t R (Is R) (shows 𝓤 H A R) r (u ∷ [])
-      (λ is.
+      heard t (F r) (λ p. split t $ use1 W back toks $ move t (1 ∷ []) $
+      peeks t R (Is R) (shows 𝓤 H A R) r (u ∷ []) (λ is.
       let e : low r ≡ u = sym (one-value u (low r) (tl r (u ∷ []) is)) in
       subst (λ (z : Val). Is R r (z ∷ []) → Goes r z) e (k r p) is))))

@@ -1,9 +1,10 @@
 -- A walk by hand, taken to its function's contract at the function's entry in the tables of its environment.
 -- Assumes nothing.
 use Rattle.ranges.proofs.Words as words
-use words.{List, URA, Name, Fn, ent, via, fst∗, Model, Routines, Heap, WpFn, Tables, Closed, WpFn-mono, Lfts, Shares}
-use words.{AllOutlive, GhostRules, Running, givenOf, tables, tablesOf, Are, Ises, Spells, valss, Tellss, RattleType}
-use words.{in-a-row, typesAt, Ended, Clauses, Args, onEntry, Triple, entered, Stays, AllGo, walkOf, walked, walk-meets}
+use words.{List, _≡_, URA, Name, Fn, ent, via, fst∗, Model, Routine, Routines, Heap, WpFn, Tables, Closed, WpFn-mono}
+use words.{Lfts, Shares, AllOutlive, GhostRules, Running, givenOf, tables, tablesOf, Are, Ises, Spells, valss, Tellss}
+use words.{RattleType, in-a-row, typesAt, Ended, Clauses, Args, onEntry, Contract, Triple, entered, cited, Stays, AllGo}
+use words.{walkOf, walked, walk-meets}
 use Rattle.ranges.proofs.Calling.{Agreed}
 
 module _ {M : Type 1} (𝓤 : URA M) (H : Heap 𝓤) (𝓜 : Model 𝓤 H) (𝓖 : GhostRules 𝓤 H) (𝓡 : Running 𝓤 H 𝓜) (T : Ended)
@@ -36,3 +37,8 @@ module _ {M : Type 1} (𝓤 : URA M) (H : Heap 𝓤) (𝓜 : Model 𝓤 H) (𝓖
       entered 𝓤 H (Agreed 𝓤 H (𝓖 .A) T c) (𝓣 .C) (𝓣 .Λ) k f closed
       (walk-meets 𝓤 H (𝓖 .A) T hs W gs c run (WpFn-mono 𝓤 H (W .laws) 𝓣 f)
       (walked 𝓤 H (𝓖 .A) T hs c run sp tl (λ κs qs os a g are. via 𝓤 _ (fst∗ 𝓤 _ (c κs a .requires g)) (walk κs qs os a g are))))
+
+-- a callee's theorem, at its entry
+pub cites : {M : Type 1} (𝓤 : URA M) (H : Heap 𝓤) (𝓜 : Model 𝓤 H) (𝓡 : Running 𝓤 H 𝓜) (γ : Routines) (k : Name) (r : Routine)
+    → γ k ≡ r → (c : Contract 𝓤) → Triple 𝓤 (𝓡 .run r) c → Triple 𝓤 (tables 𝓤 H 𝓜 𝓡 γ .C k) c
+cites 𝓤 H 𝓜 𝓡 γ k r e c t = cited 𝓤 H c 𝓜 𝓡 γ k r e t

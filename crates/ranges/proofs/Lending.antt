@@ -15,49 +15,34 @@ use words.{nothing, Kepts, Stays, AllGo, stay-slice, stay-none, stay-none-slice,
 module _ (E : RattleType) where
   abbrev slots : List (Slot 2)
   slots =
-      plain (λ _. bool) ∷ shrSliceOf (0 ∷ []) tt (plain (λ _. u8)) ∷ plain (λ _. u32) ∷ plain (λ _. u32) ∷ mutSliceOf
-      (1 ∷ []) tt (plain (λ _. E)) ∷ []
+      plain (λ _. bool) ∷ shrSliceOf (0 ∷ []) tt (plain (λ _. u8)) ∷ plain (λ _. u32) ∷ plain (λ _. u32) ∷
+      mutSliceOf (1 ∷ []) tt (plain (λ _. E)) ∷ []
 
   abbrev kepts : Kepts slots
   kepts = (yes, (yes, (yes, (yes, (yes, tt)))))
 
   abbrev pub stayed : Stays slots kepts
-  stayed = (
-    stay-none (λ _. bool) yes,
-    (
-      stay-none-slice (0 ∷ []) tt (plain (λ _. u8)) yes,
-      (
-        stay-none (λ _. u32) yes,
-        (
-          stay-none (λ _. u32) yes,
-          (stay-slice (1 ∷ []) tt (plain (λ _. E)), tt),
-        ),
-      ),
-    ),
-  )
+  stayed =
+      let bytes = stay-none-slice {n = 2} (0 ∷ []) tt (plain (λ _. u8)) yes in
+      let half = stay-none {n = 2} (λ _. u32) yes in
+      (stay-none (λ _. bool) yes, (bytes, (half, (half, (stay-slice (1 ∷ []) tt (plain (λ _. E)), tt)))))
 
   abbrev pub spelt : (κs : Lfts 2) → Spells (typesAt slots κs)
   spelt κs = (bool-vals, (slice-vals, (uint-vals w32, (uint-vals w32, (slice-vals, tt)))))
 
   abbrev pub tells : (κs : Lfts 2) → Tellss (typesAt slots κs) (Ises (typesAt slots κs)) (spelt κs)
   tells κs =
-      (bool-tells, (shr-slice-tells (named 0) (κs .0) u8, (uint-tells w32, (uint-tells w32, (mut-slice-tells (named 1) (κs .1 .0) E, tt)))))
+      let half = uint-tells w32 in
+      let list = mut-slice-tells (named 1) (κs .1 .0) E in
+      (bool-tells, (shr-slice-tells (named 0) (κs .0) u8, (half, (half, (list, tt)))))
 
   module _ {M : Type 1} (𝓤 : URA M) (H : Heap 𝓤) (A : Atoms 𝓤) (W : Given 𝓤 H A) where
     pub gone : AllGo 𝓤 H A W 2 slots kepts stayed
-    gone = (
-      goes-none 𝓤 H A W 2 (λ _. bool) yes (λ κs x f. refl),
-      (
-        goes-none-slice 𝓤 H A W 2 (0 ∷ []) tt (plain (λ _. u8)) yes,
-        (
-          goes-none 𝓤 H A W 2 (λ _. u32) yes (λ κs x f. refl),
-          (
-            goes-none 𝓤 H A W 2 (λ _. u32) yes (λ κs x f. refl),
-            (goes-slice 𝓤 H A W 2 1 tt (plain (λ _. E)), tt),
-          ),
-        ),
-      ),
-    )
+    gone =
+        let flag = goes-none 𝓤 H A W 2 (λ _. bool) yes (λ κs x f. refl) in
+        let bytes = goes-none-slice 𝓤 H A W 2 (0 ∷ []) tt (plain (λ _. u8)) yes in
+        let half = goes-none 𝓤 H A W 2 (λ _. u32) yes (λ κs x f. refl) in
+        (flag, (bytes, (half, (half, (goes-slice 𝓤 H A W 2 1 tt (plain (λ _. E)), tt)))))
 
 -- ---- a call of one of the two: the lifetimes and shares of table and output, the arguments, and what is known of them
 pub record Call (E : RattleType) : Type 0 where
@@ -175,10 +160,10 @@ module _ {M : Type 1} {𝓤 : URA M} {H : Heap 𝓤} {A : Atoms 𝓤} (W : Given
     together t l kept = step (λ z. fjoin t $
         pureI t (at-slice E (out d l) (vl d ∷ [])) (tt, (tt, tt))
         (ap (λ (m : ℕ). sliceVal (d .b, d .o) m ∷ []) (sym kept), subst (Room E) (sym kept) (d .room)) $ fjoin t $
-        nothing t $ move t (1 ∷ 0 ∷ []) $ fjoin t $ owned t u32 (Is u32) (uint-makes 𝓤 H A W w32) (d .hi) _
-        (refl, d .hi-fits) $ fjoin t $
-        owned t u32 (Is u32) (uint-makes 𝓤 H A W w32) (d .lo) _ (refl, d .lo-fits) $ fjoin t $ move t (3 ∷ 0 ∷ []) $
-        fjoin t $
+        nothing t $ move t (1 ∷ 0 ∷ []) $ fjoin t $
+        owned t u32 (Is u32) (uint-makes 𝓤 H A W w32) (d .hi) _ (refl, d .hi-fits) $ fjoin t $
+        owned t u32 (Is u32) (uint-makes 𝓤 H A W w32) (d .lo) _ (refl, d .lo-fits) $
+        fjoin t $ move t (3 ∷ 0 ∷ []) $ fjoin t $
         owned t bool (Is bool) (bool-makes 𝓤 H A W) (d .on) _ refl $ fjoin t $ nothing t $ move t (2 ∷ 0 ∷ []) $
         join t $ move t (2 ∷ 0 ∷ []) $ join t $ z)
 
@@ -187,15 +172,14 @@ module _ {M : Type 1} {𝓤 : URA M} {H : Heap 𝓤} {A : Atoms 𝓤} (W : Given
   pub handed : (R : RattleType) (y : R .Denot) (u : Val) → Makes 𝓤 H A R (Is R) → Is R y (u ∷ []) → (P : SProp 𝓤)
       → ent 𝓤 (emp 𝓤) P
       → ent 𝓤 (⋆ 𝓤 H A (‵ (flft (d .κ₀) (d .q₀)) ∷ ‵ (Own d) ∷ []))
-      (⋆ 𝓤 H A ((((‵ (flft (d .κ₀) (d .q₀)) ⊛ ‵ ftrue) ⊛ ‵ (owns (rows d R) (with d y) (spelled d u))) ⊛ raw P) ∷ ‵
-      (Own d) ∷ []))
+      (⋆ 𝓤 H A ((((‵ (flft (d .κ₀) (d .q₀)) ⊛ ‵ ftrue) ⊛ ‵
+      (owns (rows d R) (with d y) (spelled d u))) ⊛ raw P) ∷ ‵ (Own d) ∷ []))
   handed R y u makes is P h =
       qed W (‵ (flft (d .κ₀) (d .q₀)) ∷ ‵ (Own d) ∷ []) ∵ move ! (1 ∷ []) $
       use1 W (‵ (Own d) ⊛ ‵ (Own d)) (shr-slice-copy 𝓤 H A W (named 0) (d .κ₀) u8 .twice (d .s) (v d ∷ [])) $ split ! $
-      nothing ! $ owned ! R (Is R) makes y _ is $ fjoin ! $ owned ! u32 (Is u32) (uint-makes 𝓤 H A W w32) (d .hi) _
-      (refl, d .hi-fits) $ fjoin ! $
-      owned ! u32 (Is u32) (uint-makes 𝓤 H A W w32) (d .lo) _ (refl, d .lo-fits) $ fjoin ! $ move ! (1 ∷ 0 ∷ []) $
-      fjoin ! $
-      owned ! bool (Is bool) (bool-makes 𝓤 H A W) (d .on) _ refl $ fjoin ! $ nothing ! $ move ! (3 ∷ 0 ∷ []) $ join ! $
-      join ! $
-      use0 W (raw P) h $ move ! (1 ∷ 0 ∷ []) $ join ! $ frame ! $ done !
+      nothing ! $ owned ! R (Is R) makes y _ is $ fjoin ! $
+      owned ! u32 (Is u32) (uint-makes 𝓤 H A W w32) (d .hi) _ (refl, d .hi-fits) $ fjoin ! $
+      owned ! u32 (Is u32) (uint-makes 𝓤 H A W w32) (d .lo) _ (refl, d .lo-fits) $
+      fjoin ! $ move ! (1 ∷ 0 ∷ []) $ fjoin ! $
+      owned ! bool (Is bool) (bool-makes 𝓤 H A W) (d .on) _ refl $ fjoin ! $ nothing ! $
+      move ! (3 ∷ 0 ∷ []) $ join ! $ join ! $ use0 W (raw P) h $ move ! (1 ∷ 0 ∷ []) $ join ! $ frame ! $ done !

@@ -50,8 +50,8 @@ module _ {M : Type 1} {𝓤 : URA M} {H : Heap 𝓤} {A : Atoms 𝓤} {K : Type 
         prf = via 𝓤 (sep 𝓤 P (⋆ 𝓤 H A (i ∷ Γ))) (⊢++ 𝓤 H A Δ (i ∷ Γ))
             (via 𝓤 (sep 𝓤 P (sep 𝓤 Q R)) (monoR 𝓤 P (pop 𝓤 H A i Γ))
             (via 𝓤 (sep 𝓤 (sep 𝓤 Q P) R) (via 𝓤 (sep 𝓤 (sep 𝓤 P Q) R) (assoc′ 𝓤 P Q R) (monoL 𝓤 R (comm∗ 𝓤 P Q)))
-            (via 𝓤 (sep 𝓤 Q (⋆ 𝓤 H A (Δ ++ Γ))) (via 𝓤 (sep 𝓤 Q (sep 𝓤 P R)) (assoc∗ 𝓤 Q P R)
-            (monoR 𝓤 Q (++⊢ 𝓤 H A Δ Γ)))
+            (via 𝓤 (sep 𝓤 Q (⋆ 𝓤 H A (Δ ++ Γ)))
+            (via 𝓤 (sep 𝓤 Q (sep 𝓤 P R)) (assoc∗ 𝓤 Q P R) (monoR 𝓤 Q (++⊢ 𝓤 H A Δ Γ)))
             (via 𝓤 (⋆ 𝓤 H A (i ∷ (Δ ++ Γ))) (push 𝓤 H A i (Δ ++ Γ)) (s .prf)))));
       })
 
@@ -60,9 +60,8 @@ module _ {M : Type 1} {𝓤 : URA M} {H : Heap 𝓤} {A : Atoms 𝓤} {K : Type 
   room-all t [] k = alloc0 t $ k tt
   room-all t (local τ h ∷ ls) {Γ} k =
       alloc1 t (λ b. room-all t ls (λ bs.
-      ahead (held 𝓤 ls bs []) (‵ (froom τ b zero)) (‵ (fdies τ b) ∷ Γ) $ ahead (‵ (froom τ b zero) ∷ held 𝓤 ls bs [])
-      (‵ (fdies τ b)) Γ $
-      move t (1 ∷ 0 ∷ []) $ k (b, bs)))
+      ahead (held 𝓤 ls bs []) (‵ (froom τ b zero)) (‵ (fdies τ b) ∷ Γ) $
+      ahead (‵ (froom τ b zero) ∷ held 𝓤 ls bs []) (‵ (fdies τ b)) Γ $ move t (1 ∷ 0 ∷ []) $ k (b, bs)))
 
   -- all locals are allocated
   pub alloc-all : K → {ls : List Local} {Γ : List (Item 𝓤)} {Kt : Env 𝓤 H → Goal 𝓤 H}
@@ -104,8 +103,8 @@ module _ {M : Type 1} {𝓤 : URA M} {H : Heap 𝓤} {A : Atoms 𝓤} {K : Type 
       let o : ℕ = spotOf 𝓤 H E i .2 in
       let back : Val → Item 𝓤 = λ u. ‵ (fat q (tyStruct ν τs) b o u) in
       load t (from t (fld t g (stop t)))
-      (look-in t n (sub t k f (subst (λ (j : Item 𝓤). Part K W j q (tyStruct ν τs) b o (vstruct vs) back) (sym e)
-      (whole t))))
+      (look-in t n (sub t k f (subst (λ (j : Item 𝓤). Part K W j q (tyStruct ν τs) b o
+      (vstruct vs) back) (sym e) (whole t))))
 
   -- it gets its first value
   pub puts : K → {C : Calls 𝓤 H} {Λ : Loops 𝓤 H} {q : Posts 𝓤 H} {rv : RValue} {rest : Body} {v : Val} → Rv K W Γ E rv v

@@ -13,7 +13,7 @@ use words.{runs, _$_, move, raw, _⊛_, split, _∵_, !, qed, drop, frame, done,
 use words.{suffices, look, init, forget, stop, from, assigns, store, store-raw, hop, lit, of-opd, and-then, no-more}
 use words.{bin, assigns-last, land, first, blocks, stays, leaves-loop, gives-back, enter, params1, pass1, pass0, exec}
 use words.{Below, again, loops, u8, usize, place-is, elem-out, elem-put, opens-slice, closes-slice, Is, shows}
-use words.{uint-makes, now, shr-slice-lawful, owned, Clauses, Contract, Triple, cited, walkOf, says, ends-at}
+use words.{uint-makes, now, shr-slice-lawful, owned, Clauses, Contract, Triple, walkOf, says, ends-at}
 use denote.Enum.Laws as EL
 use denote.Struct.Laws as LL
 use Rattle.omap.specs.declared.walk.Span.{Span}
@@ -25,7 +25,7 @@ use Rattle.ranges.specs.declared.Piece.{Piece}
 use Rattle.ranges.specs.declared.WindowPlan.{WindowPlan}
 use Rattle.ranges.proofs.Locals.{Blocks, env, held, alloc-all, free-all, holds, get, get-field, puts}
 use Rattle.ranges.proofs.Calling.{Agreed, hears}
-use Rattle.ranges.proofs.Hand.{by-hand}
+use Rattle.ranges.proofs.Hand.{by-hand, cites}
 use Rattle.ranges.proofs.Lending.{stayed, spelt, tells, gone, Call, callOf, v, vl, flatly, with, spelled, out}
 use Rattle.ranges.proofs.Lending.{params, Own, entry, shut, opened, apart, together, handed}
 use Rattle.ranges.proofs.Writing.{Writing, Nearer, nearer-wf, writing-first, writing-last, some-left}
@@ -68,8 +68,9 @@ module _ {M : Type 1} (𝓤 : URA M) (H : Heap 𝓤) (A : Atoms 𝓤) (W : Given
   abbrev to-pull : Span → PullAt .Ghost
   to-pull p = (((d .κ₀, tt), (d .q₀, tt), tt, with d p, spelled d (Sp.Laws.lowered p)), tt)
 
-  abbrev Known : Tables 𝓤 H → Type 1
-  Known 𝓣 = Triple 𝓤 (𝓣 .C plan.Symbol.name) PlanAt × Triple 𝓤 (𝓣 .C pull.Symbol.name) PullAt
+  record Known (𝓣 : Tables 𝓤 H) : Type 1 where
+    pub plans : Triple 𝓤 (𝓣 .C plan.Symbol.name) PlanAt
+    pub pulls : Triple 𝓤 (𝓣 .C pull.Symbol.name) PullAt
 
   abbrev Tok : Item 𝓤
   Tok = ‵ (flft (d .κ₀) (d .q₀))
@@ -131,9 +132,8 @@ module _ {M : Type 1} (𝓤 : URA M) (H : Heap 𝓤) (A : Atoms 𝓤) (W : Given
     -- the values of _0 to _12
     abbrev values : Option Val → State n → Option Val → List (Option Val)
     values r w z =
-        params d r (some (K.Laws.lowered t) ∷ some (vint w64 n) ∷ some (Sp.Laws.lowered (w .at)) ∷ some
-        (vint w64 (w .k))
-        ∷ none ∷ some (vint w64 (length (d .xs))) ∷ z ∷ [])
+        params d r (some (K.Laws.lowered t) ∷ some (vint w64 n) ∷ some
+        (Sp.Laws.lowered (w .at)) ∷ some (vint w64 (w .k)) ∷ none ∷ some (vint w64 (length (d .xs))) ∷ z ∷ [])
 
     abbrev At : State n → List (Item 𝓤)
     At w = opened 𝓤 d (w .out) ++ held 𝓤 (code.function .locals) bs (values none w none)
@@ -163,33 +163,32 @@ module _ {M : Type 1} (𝓤 : URA M) (H : Heap 𝓤) (A : Atoms 𝓤) (W : Given
         rewrite ! 30 (λ (z : Bool). holds 𝓤 H En 12 (vbool z)) e refl $ stays ! (get ! 30 refl) $ move ! (4 ∷ 5 ∷ []) $
         use2 W (raw (PullAt .pre (to-pull (w .at))) ⊛ ‵ (Own d)) (handed W d Sp.the-row (w .at) _
         (LL.makes Sp.the-type Sp.Laws.the-plain 𝓤 H A) (goes .1) _ (factI 𝓤 _ (emp 𝓤) ahead)) $ split ! $
-        hears ! (fmOf 𝓤 H (W .laws) 𝓣) pull.ended (pull.clauses 𝓤 H A mem run) (known .1) (to-pull (w .at)) Tok
-        (fst∗ 𝓤 _ (emp 𝓤)) (Pulled (d .on) (now (d .s)) (d .lo) (d .hi) (w .at)) (λ r ws. id⊢ 𝓤 _) G.Laws.lowered
-        (G.Laws.the-field-laws .low-is) (and-then ! (get ! 8 refl) (and-then ! (get ! 10 refl)
-        (and-then ! (get ! 12 refl)
+        hears ! (fmOf 𝓤 H (W .laws) 𝓣) pull.ended (pull.clauses 𝓤 H A mem run) (known .pulls) (to-pull (w .at)) Tok
+        (fst∗ 𝓤 _ (emp 𝓤)) (Pulled (d .on) (now (d .s)) (d .lo) (d .hi) (w .at)) (λ r ws. id⊢ 𝓤 _)
+        G.Laws.lowered (G.Laws.the-field-laws .low-is)
+        (and-then ! (get ! 8 refl) (and-then ! (get ! 10 refl) (and-then ! (get ! 12 refl)
         (and-then ! (get ! 14 refl) (and-then ! (get ! 22 refl) (no-more !)))))) (λ r u is.
         let is-piece : Is P.the-row (r .piece) (P.Laws.lowered (r .piece) ∷ []) = LL.owed G.the-type G.Laws.the-laws r
         _ is .0 in
         let is-rest : Is Sp.the-row (r .rest) (Sp.Laws.lowered (r .rest) ∷ []) = LL.owed G.the-type G.Laws.the-laws r _
         is .1 .0 in
-        drop ! $ land ! (from ! (stop !)) (init ! 26 refl (LL.lawful G.the-type G.Laws.the-laws 𝓤 H A W .typed r _ is
-        .0)) $
+        drop ! $ land ! (from ! (stop !))
+        (init ! 26 refl (LL.lawful G.the-type G.Laws.the-laws 𝓤 H A W .typed r _ is .0)) $
         -- [table's token; what table owns; the row; the open borrow; obs; auth; _0; …]
         puts ! (bin ! (get ! 24 refl) (lit ! tt) (record { fits = place-fits })) 32 refl
         (tt, record { fits = place-fits }) $
         puts ! (bin ! (get-field ! 16 refl refl refl) (get ! 32 refl) tt) 34 refl (tt, tt) $
-        rewrite ! 34 (λ (z : ℕ). holds 𝓤 H En 14 (vptr (d .b) z)) (sym (place-is 8 (d .o) (w .k))) refl $
-        move ! (2 ∷ []) $
+        rewrite ! 34 (λ (z : ℕ). holds 𝓤 H En 14 (vptr (d .b) z))
+        (sym (place-is 8 (d .o) (w .k))) refl $ move ! (2 ∷ []) $
         elem-out ! P.the-row (Is P.the-row) (shows 𝓤 H A P.the-row) (LL.vals P.the-type P.Laws.the-laws)
         (LL.tells P.the-type P.Laws.the-laws) fullShare (w .out) (w .k) (r .piece) (d .b) (d .o) in-row (λ _.
         -- [out[k]; what it owns; the others; table's token; what table owns; the open borrow; obs; auth; _0; …]
         assigns ! (of-opd ! (get-field ! 28 refl refl refl)) (from ! (hop ! (look ! 36 refl) (stop !)))
         (store-raw ! 0 refl (LL.lawful P.the-type P.Laws.the-laws 𝓤 H A W .typed (r .piece) _ is-piece .0)) $
-        move ! (1 ∷ []) $ drop ! $ owned ! P.the-row (Is P.the-row) (LL.makes P.the-type P.Laws.the-plain 𝓤 H A)
-        (r .piece) _ is-piece $
-        move ! (1 ∷ 0 ∷ []) $
-        elem-put ! P.the-row fullShare (w .out) (w .k) (r .piece) (P.Laws.lowered (r .piece) ∷ []) (d .b) (d .o) in-row
-        $
+        move ! (1 ∷ []) $ drop ! $ owned ! P.the-row (Is P.the-row)
+        (LL.makes P.the-type P.Laws.the-plain 𝓤 H A) (r .piece) _ is-piece $ move ! (1 ∷ 0 ∷ []) $
+        elem-put ! P.the-row fullShare (w .out) (w .k) (r .piece)
+        (P.Laws.lowered (r .piece) ∷ []) (d .b) (d .o) in-row $
         -- [the row; table's token; what table owns; the open borrow; obs; auth; _0; …]
         assigns ! (of-opd ! (get-field ! 26 refl refl refl)) (from ! (stop !))
         (store ! 22 refl (LL.lawful Sp.the-type Sp.Laws.the-laws 𝓤 H A W .typed (r .rest) _ is-rest .0)) $
@@ -201,12 +200,12 @@ module _ {M : Type 1} (𝓤 : URA M) (H : Heap 𝓤) (A : Atoms 𝓤) (W : Given
     turn-at w false e =
         puts ! (bin ! (get ! 24 refl) (get ! 20 refl) tt) 30 refl (tt, tt) $
         rewrite ! 30 (λ (z : Bool). holds 𝓤 H En 12 (vbool z)) e refl $ leaves-loop ! (get ! 30 refl) $
-        exec ! (𝓣 .C) (𝓣 .Λ) En code.Mir.t-7 (atRet En Post) $ closes-slice ! tt P.the-row (d .xs) (w .out) (w .kept)
-        (d .b) (d .o) $
+        exec ! (𝓣 .C) (𝓣 .Λ) En code.Mir.t-7 (atRet En Post) $
+        closes-slice ! tt P.the-row (d .xs) (w .out) (w .kept) (d .b) (d .o) $
         -- [obs; the borrow; out's token; table's token; what table owns; _0; …]
         puts ! (of-opd ! (get-field ! 17 refl refl refl)) 5 refl
-        (EL.lawful F.the-type F.Laws.the-laws 𝓤 H A W tt .typed (t .answer) _ is-answer .0) $
-        gives-back ! (look ! 5 refl) $
+        (EL.lawful F.the-type F.Laws.the-laws 𝓤 H A W tt .typed (t .answer) _
+        is-answer .0) $ gives-back ! (look ! 5 refl) $
         free-all ! (code.function .locals) bs (values (some (F.Laws.lowered (t .answer))) w (some (vbool false)))
         (shut 𝓤 d (w .out)) $ by ! (returns t p is-answer w (nltb→le (w .k) n
         (subst (λ (z : Bool). Holds (not z)) (sym e) tt)))
@@ -224,16 +223,15 @@ module _ {M : Type 1} (𝓤 : URA M) (H : Heap 𝓤) (A : Atoms 𝓤) (W : Given
       (init ! 13 refl (tt, record { fits = d .hi-fits })) $
       pass1 ! (init ! 15 refl (tt, (tt, (record { fits = d .room .0 }, tt)))) $ pass0 ! $
       -- [obs; the borrow; out's token; table's token; what table owns; _0; …]: `plan`
-      puts ! (of-opd ! (get-field ! 15 refl refl refl)) 27 refl (tt, record { fits = d .room .0 }) $
-      move ! (3 ∷ 4 ∷ []) $
-      use2 W (raw (PlanAt .pre to-plan) ⊛ ‵ (Own d))
+      puts ! (of-opd ! (get-field ! 15 refl refl refl)) 27 refl
+      (tt, record { fits = d .room .0 }) $ move ! (3 ∷ 4 ∷ []) $ use2 W (raw (PlanAt .pre to-plan) ⊛ ‵ (Own d))
       (handed W d usize (length (d .xs)) _ (uint-makes 𝓤 H A W w64) (refl, d .room .0) _ (id⊢ 𝓤 (emp 𝓤))) $ split ! $
-      hears ! (fmOf 𝓤 H (W .laws) 𝓣) plan.ended (plan.clauses 𝓤 H A mem run) (known .0) to-plan Tok (fst∗ 𝓤 _ (emp 𝓤))
+      hears ! (fmOf 𝓤 H (W .laws) 𝓣) plan.ended (plan.clauses 𝓤 H A mem run) (known .plans) to-plan Tok (fst∗ 𝓤 _ (emp 𝓤))
       Plans (λ r ws. id⊢ 𝓤 _) K.Laws.lowered (K.Laws.the-field-laws .low-is) (and-then ! (get ! 7 refl)
-      (and-then ! (get ! 9 refl) (and-then ! (get ! 11 refl) (and-then ! (get ! 13 refl) (and-then ! (get ! 27 refl)
-      (no-more !)))))) (λ t p is.
-      drop ! $ land ! (from ! (stop !)) (init ! 17 refl (LL.lawful K.the-type K.Laws.the-laws 𝓤 H A W .typed t _ is
-      .0)) $
+      (and-then ! (get ! 9 refl) (and-then ! (get ! 11 refl)
+      (and-then ! (get ! 13 refl) (and-then ! (get ! 27 refl) (no-more !))))))
+      (λ t p is. drop ! $ land ! (from ! (stop !))
+      (init ! 17 refl (LL.lawful K.the-type K.Laws.the-laws 𝓤 H A W .typed t _ is .0)) $
       -- [table's token; what table owns; obs; the borrow; out's token; _0; …]
       puts ! (of-opd ! (get-field ! 17 refl refl refl)) 19 refl (tt, record { fits = n-fits 𝓣 known bs t p is }) $
       puts ! (of-opd ! (get-field ! 17 refl refl refl)) 21 refl
@@ -248,9 +246,10 @@ list-spec 𝓤 H 𝓜 𝓖 𝓡 =
     let A = 𝓖 .A in
     let W = givenOf 𝓤 H 𝓜 𝓖 in
     let E = P.the-row in
-    by-hand 𝓤 H 𝓜 𝓖 𝓡 list.ended (list.clauses 𝓤 H A (𝓜 .mem) (𝓡 .run)) code.env list.Key.name code.function (stayed E) (spelt E)
-    (code.unfolded 𝓤 H 𝓜 𝓡) (gone E 𝓤 H A W) (tells E) (λ κs qs os a g are.
-    walk 𝓤 H A W (𝓜 .mem) (𝓡 .run) (callOf E κs qs a are) (tablesOf 𝓤 H 𝓜 (tables 𝓤 H 𝓜 𝓡 code.env)) (
-      cited 𝓤 H _ 𝓜 𝓡 code.env plan.Symbol.name plan.Symbol.routine code.calls-ranges·plan (plan.Met.met 𝓤 H 𝓜 𝓖 𝓡),
-      cited 𝓤 H _ 𝓜 𝓡 code.env pull.Symbol.name pull.Symbol.routine code.calls-ranges·pull (pull.Met.met 𝓤 H 𝓜 𝓖 𝓡),
-    ))
+    let at = cites 𝓤 H 𝓜 𝓡 code.env in
+    by-hand 𝓤 H 𝓜 𝓖 𝓡 list.ended (list.clauses 𝓤 H A (𝓜 .mem) (𝓡 .run)) code.env list.Key.name code.function
+    (stayed E) (spelt E) (code.unfolded 𝓤 H 𝓜 𝓡) (gone E 𝓤 H A W) (tells E) (λ κs qs os a g are.
+    walk 𝓤 H A W (𝓜 .mem) (𝓡 .run) (callOf E κs qs a are) (tablesOf 𝓤 H 𝓜 (tables 𝓤 H 𝓜 𝓡 code.env)) (record {
+      plans = at plan.Symbol.name plan.Symbol.routine code.calls-ranges·plan _ (plan.Met.met 𝓤 H 𝓜 𝓖 𝓡);
+      pulls = at pull.Symbol.name pull.Symbol.routine code.calls-ranges·pull _ (pull.Met.met 𝓤 H 𝓜 𝓖 𝓡);
+    }))

@@ -16,7 +16,7 @@ use words.{assigns, store, hop, lit, of-opd, and-then, no-more, bin, assigns-las
 use words.{leaves-loop, gives-back, enter, params1, pass1, pass0, exec, Below, again, loops, u8, u32, bool, usize}
 use words.{place-is, elem-out, elem-put, opens-slice, closes-slice, Is, shows, uint-vals, uint-tells, uint-makes}
 use words.{bool-makes, RattleType, now, NamedLft, namedLft, shr-slice-copy, shr-slice-lawful, peeks, owned, nothing}
-use words.{Clauses, Contract, Triple, cited, walkOf, says, ends-at}
+use words.{Clauses, Contract, Triple, walkOf, says, ends-at}
 use denote.Enum.Laws as EL
 use denote.Struct.Laws as LL
 use Rattle.omap.specs.Output.{windowOut}
@@ -31,7 +31,7 @@ use Rattle.ranges.specs.declared.reader.RangeReader.{RangeReader}
 use Rattle.ranges.specs.declared.reader.DrainPlan.{DrainPlan}
 use Rattle.ranges.proofs.Locals.{Blocks, env, held, alloc-all, free-all, holds, get, get-field, puts}
 use Rattle.ranges.proofs.Calling.{Agreed, hears}
-use Rattle.ranges.proofs.Hand.{by-hand}
+use Rattle.ranges.proofs.Hand.{by-hand, cites}
 use Rattle.ranges.proofs.Lending.{stayed, spelt, tells, gone, Call, callOf, v, vl, flatly, with, spelled, out}
 use Rattle.ranges.proofs.Lending.{params, Own, entry, shut, opened, apart, together, handed}
 use Rattle.ranges.proofs.Writing.{Writing, Nearer, nearer-wf, writing-first, writing-last, some-left}
@@ -83,11 +83,12 @@ module _ {M : Type 1} (𝓤 : URA M) (H : Heap 𝓤) (A : Atoms 𝓤) (W : Given
   abbrev MovedAt : Contract 𝓤
   MovedAt = Agreed 𝓤 H A moved.ended (moved.clauses 𝓤 H A mem run)
 
-  abbrev Known : Tables 𝓤 H → Type 1
-  Known 𝓣 =
-      Triple 𝓤 (𝓣 .C plan.Symbol.name) PlanAt × (Triple 𝓤 (𝓣 .C new.Symbol.name) NewAt ×
-      (Triple 𝓤 (𝓣 .C next.Symbol.name) NextAt
-      × (Triple 𝓤 (𝓣 .C taken.Symbol.name) TakenAt × Triple 𝓤 (𝓣 .C moved.Symbol.name) MovedAt)))
+  record Known (𝓣 : Tables 𝓤 H) : Type 1 where
+    pub plans : Triple 𝓤 (𝓣 .C plan.Symbol.name) PlanAt
+    pub makes : Triple 𝓤 (𝓣 .C new.Symbol.name) NewAt
+    pub steps : Triple 𝓤 (𝓣 .C next.Symbol.name) NextAt
+    pub takes : Triple 𝓤 (𝓣 .C taken.Symbol.name) TakenAt
+    pub moves : Triple 𝓤 (𝓣 .C moved.Symbol.name) MovedAt
 
   abbrev Tok : Item 𝓤
   Tok = ‵ (flft (d .κ₀) (d .q₀))
@@ -128,20 +129,18 @@ module _ {M : Type 1} (𝓤 : URA M) (H : Heap 𝓤) (A : Atoms 𝓤) (W : Given
   goes-new c pc =
       qed W (Tok ∷ ‵ (Own d) ∷ []) ∵ move ! (1 ∷ []) $
       use1 W (‵ (Own d) ⊛ ‵ (Own d)) (shr-slice-copy 𝓤 H A W (named 0) (d .κ₀) u8 .twice (d .s) (v d ∷ [])) $ split ! $
-      nothing ! $ owned ! Cu.the-row (Is Cu.the-row) (LL.makes Cu.the-type Cu.Laws.the-plain 𝓤 H A) c _ pc $ fjoin ! $
-      move ! (1 ∷ 0 ∷ []) $ fjoin ! $
-      owned ! bool (Is bool) (bool-makes 𝓤 H A W) (d .on) _ refl $ fjoin ! $ nothing ! $ move ! (3 ∷ 0 ∷ []) $ join ! $
-      join ! $
-      nothing ! $ move ! (1 ∷ 0 ∷ []) $ join ! $ frame ! $ done !
+      nothing ! $ owned ! Cu.the-row (Is Cu.the-row) (LL.makes Cu.the-type Cu.Laws.the-plain 𝓤 H A) c _ pc $
+      fjoin ! $ move ! (1 ∷ 0 ∷ []) $ fjoin ! $
+      owned ! bool (Is bool) (bool-makes 𝓤 H A W) (d .on) _ refl $ fjoin ! $ nothing ! $
+      move ! (3 ∷ 0 ∷ []) $ join ! $ join ! $ nothing ! $ move ! (1 ∷ 0 ∷ []) $ join ! $ frame ! $ done !
 
   abbrev to-next : Cursor → NextAt .Ghost
   to-next c = (((d .κ₀, tt), (d .q₀, tt), tt, (rd c, tt), (T.Laws.lowered (rd c) ∷ [], tt)), tt)
 
   goes-next : (c : Cursor) → ent 𝓤 (⋆ 𝓤 H A (OwnR (rd c) ∷ Tok ∷ [])) (NextAt .pre (to-next c))
   goes-next c =
-      qed W (OwnR (rd c) ∷ Tok ∷ []) ∵ nothing ! $ move ! (1 ∷ 0 ∷ []) $ fjoin ! $ nothing ! $ move ! (2 ∷ 0 ∷ []) $
-      join ! $
-      join ! $ frame ! $ done !
+      qed W (OwnR (rd c) ∷ Tok ∷ []) ∵ nothing ! $ move ! (1 ∷ 0 ∷ []) $ fjoin ! $
+      nothing ! $ move ! (2 ∷ 0 ∷ []) $ join ! $ join ! $ frame ! $ done !
 
   abbrev to-taken : Step → TakenAt .Ghost
   to-taken z = ((tt, tt, tt, (z, tt), (S.Laws.lowered z ∷ [], tt)), tt)
@@ -149,9 +148,8 @@ module _ {M : Type 1} (𝓤 : URA M) (H : Heap 𝓤) (A : Atoms 𝓤) (W : Given
   goes-taken : (z : Step)
       → ent 𝓤 (⋆ 𝓤 H A (‵ (S.the-row .own z (S.Laws.lowered z ∷ [])) ∷ [])) (TakenAt .pre (to-taken z))
   goes-taken z =
-      qed W (‵ (S.the-row .own z (S.Laws.lowered z ∷ [])) ∷ []) ∵ nothing ! $ move ! (1 ∷ 0 ∷ []) $ fjoin ! $
-      nothing ! $ join ! $
-      frame ! $ done !
+      qed W (‵ (S.the-row .own z (S.Laws.lowered z ∷ [])) ∷ []) ∵ nothing ! $
+      move ! (1 ∷ 0 ∷ []) $ fjoin ! $ nothing ! $ join ! $ frame ! $ done !
 
   abbrev to-moved : Cursor → Cursor → MovedAt .Ghost
   to-moved c e =
@@ -214,9 +212,8 @@ module _ {M : Type 1} (𝓤 : URA M) (H : Heap 𝓤) (A : Atoms 𝓤) (W : Given
     -- the values of _0 to _12
     abbrev values : Option Val → State n → Option Val → List (Option Val)
     values r w z =
-        params d r (some (K.Laws.lowered t) ∷ some (vint w64 n) ∷ some (T.Laws.lowered (rd (w .at))) ∷ some
-        (vint w64 (w .k))
-        ∷ none ∷ some (vint w64 (length (d .xs))) ∷ z ∷ [])
+        params d r (some (K.Laws.lowered t) ∷ some (vint w64 n) ∷ some
+        (T.Laws.lowered (rd (w .at))) ∷ some (vint w64 (w .k)) ∷ none ∷ some (vint w64 (length (d .xs))) ∷ z ∷ [])
 
     abbrev At : State n → List (Item 𝓤)
     At w = opened 𝓤 d (w .out) ++ (OwnR (rd (w .at)) ∷ held 𝓤 (code.function .locals) bs (values none w none))
@@ -242,18 +239,18 @@ module _ {M : Type 1} (𝓤 : URA M) (H : Heap 𝓤) (A : Atoms 𝓤) (W : Given
         puts ! (bin ! (get ! 25 refl) (get ! 21 refl) tt) 31 refl (tt, tt) $
         rewrite ! 31 (λ (z : Bool). holds 𝓤 H En 12 (vbool z)) e refl $ stays ! (get ! 31 refl) $ move ! (6 ∷ []) $
         peeks ! R (Is R) (shows 𝓤 H A R) r (T.Laws.lowered r ∷ []) (λ is-r.
-        use1 W (OwnR r ⊛ OwnR r) (LL.copy (T.the-type α) (T.Laws.the-copy α) 𝓤 H A W .twice r (T.Laws.lowered r ∷ []))
-        $ split ! $
+        use1 W (OwnR r ⊛ OwnR r) (LL.copy (T.the-type α) (T.Laws.the-copy α) 𝓤 H A W .twice
+        r (T.Laws.lowered r ∷ [])) $ split ! $
         -- [what the reader owns; the same; the row; the open borrow; obs; auth; table's token; what table owns; _0; …]: `next`
         puts ! (of-opd ! (get ! 24 refl)) 36 refl (typed r is-r) $ move ! (0 ∷ 6 ∷ []) $
         use2 W (raw (NextAt .pre (to-next (w .at)))) (goes-next (w .at)) $
-        hears ! fm next.ended (next.clauses 𝓤 H A mem run) (known .1 .1 .0) (to-next (w .at)) Tok (fst∗ 𝓤 _ (emp 𝓤))
+        hears ! fm next.ended (next.clauses 𝓤 H A mem run) (known .steps) (to-next (w .at)) Tok (fst∗ 𝓤 _ (emp 𝓤))
         (λ z. toldStep z ≡ stepSpec (d .on) (now (d .s)) (w .at)) (λ z ws. id⊢ 𝓤 _) S.Laws.lowered
         (S.Laws.the-field-laws .low-is) (and-then ! (get ! 35 refl) (no-more !)) (λ z e₁ is₁.
         -- [the answer; table's token; what the reader owns; the row; the open borrow; obs; auth; what table owns; _0; …]: `taken`
         land ! (from ! (stop !)) (init ! 34 refl (EL.lawful S.the-type S.Laws.the-laws 𝓤 H A W tt .typed z _ is₁ .0)) $
         use1 W (raw (TakenAt .pre (to-taken z))) (goes-taken z) $
-        hears ! fm taken.ended (taken.clauses 𝓤 H A mem run) (known .1 .1 .1 .0) (to-taken z) (raw (emp 𝓤)) (id⊢ 𝓤 _)
+        hears ! fm taken.ended (taken.clauses 𝓤 H A mem run) (known .takes) (to-taken z) (raw (emp 𝓤)) (id⊢ 𝓤 _)
         (λ x. x ≡ asTaken (toldStep z)) (λ x ws. id⊢ 𝓤 _) Tn.Laws.lowered (Tn.Laws.the-field-laws .low-is)
         (and-then ! (get ! 34 refl) (no-more !)) (λ x e₂ is₂.
         let f = taken-from (writing-on w less) (some-left w less) (e₂ ∙ ap asTaken e₁) in
@@ -270,15 +267,15 @@ module _ {M : Type 1} (𝓤 : URA M) (H : Heap 𝓤) (A : Atoms 𝓤) (W : Given
         let fields = LL.owed Tn.the-type Tn.Laws.the-laws x _ is₂ in
         let start-fits : x .start < 2 ^ 32 = fields .0 .1 in
         let end-fits : x .end < 2 ^ 32 = fields .1 .0 .1 in
-        drop ! $ drop ! $ land ! (from ! (stop !)) (init ! 27 refl (LL.lawful Tn.the-type Tn.Laws.the-laws 𝓤 H A W
-        .typed x _ is₂ .0)) $
+        drop ! $ drop ! $ land ! (from ! (stop !))
+        (init ! 27 refl (LL.lawful Tn.the-type Tn.Laws.the-laws 𝓤 H A W .typed x _ is₂ .0)) $
         -- [table's token; what the reader owns; the row; the open borrow; obs; auth; what table owns; _0; …]: out[k]
         puts ! (bin ! (get ! 25 refl) (lit ! tt) (record { fits = place₀ })) 37 refl (tt, record { fits = place₀ }) $
         puts ! (bin ! (get-field ! 17 refl refl refl) (get ! 37 refl) tt) 39 refl (tt, tt) $
-        rewrite ! 39 (λ (i : ℕ). holds 𝓤 H En 16 (vptr (d .b) i)) (sym (place-is 4 (d .o) (w .k))) refl $
-        move ! (2 ∷ []) $
-        elem-out ! u32 (Is u32) (shows 𝓤 H A u32) (uint-vals w32) (uint-tells w32) fullShare (w .out) (w .k) 0 (d .b)
-        (d .o) in₀ (λ _.
+        rewrite ! 39 (λ (i : ℕ). holds 𝓤 H En 16 (vptr (d .b) i))
+        (sym (place-is 4 (d .o) (w .k))) refl $ move ! (2 ∷ []) $
+        elem-out ! u32 (Is u32) (shows 𝓤 H A u32) (uint-vals w32) (uint-tells w32) fullShare
+        (w .out) (w .k) 0 (d .b) (d .o) in₀ (λ _.
         -- [out[k]; what it owns; the others; table's token; what the reader owns; the open borrow; obs; auth; what table owns; _0; …]
         assigns ! (of-opd ! (get-field ! 29 refl refl refl)) (from ! (hop ! (look ! 41 refl) (stop !)))
         (store ! 0 refl (tt, record { fits = start-fits })) $ move ! (1 ∷ []) $ drop ! $
@@ -290,8 +287,8 @@ module _ {M : Type 1} (𝓤 : URA M) (H : Heap 𝓤) (A : Atoms 𝓤) (W : Given
         puts ! (bin ! (get ! 37 refl) (lit ! tt) (record { fits = place₁ })) 41 refl (tt, record { fits = place₁ }) $
         puts ! (bin ! (get-field ! 17 refl refl refl) (get ! 41 refl) tt) 43 refl (tt, tt) $
         rewrite ! 43 (λ (i : ℕ). holds 𝓤 H En 18 (vptr (d .b) i)) (sym (place-is 4 (d .o) (w .k + 1))) refl $
-        elem-out ! u32 (Is u32) (shows 𝓤 H A u32) (uint-vals w32) (uint-tells w32) fullShare once (w .k + 1) 0 (d .b)
-        (d .o) in₁ (λ _.
+        elem-out ! u32 (Is u32) (shows 𝓤 H A u32) (uint-vals w32) (uint-tells w32) fullShare
+        once (w .k + 1) 0 (d .b) (d .o) in₁ (λ _.
         assigns ! (of-opd ! (get-field ! 29 refl refl refl)) (from ! (hop ! (look ! 45 refl) (stop !)))
         (store ! 0 refl (tt, record { fits = end-fits })) $ move ! (1 ∷ []) $ drop ! $
         owned ! u32 (Is u32) (uint-makes 𝓤 H A W w32) (x .end) _ (refl, end-fits) $ move ! (1 ∷ 0 ∷ []) $
@@ -299,7 +296,7 @@ module _ {M : Type 1} (𝓤 : URA M) (H : Heap 𝓤) (A : Atoms 𝓤) (W : Given
         -- [the row; table's token; what the reader owns; the open borrow; obs; auth; what table owns; _0; …]: `moved`
         puts ! (of-opd ! (get ! 23 refl)) 45 refl (typed r is-r) $ move ! (2 ∷ 1 ∷ []) $
         use2 W (raw (MovedAt .pre (to-moved (w .at) (x .next)))) (goes-moved (w .at) (x .next) (fields .1 .1 .0)) $
-        hears ! fm moved.ended (moved.clauses 𝓤 H A mem run) (known .1 .1 .1 .1) (to-moved (w .at) (x .next)) Tok
+        hears ! fm moved.ended (moved.clauses 𝓤 H A mem run) (known .moves) (to-moved (w .at) (x .next)) Tok
         (fst∗ 𝓤 _ (emp 𝓤)) (Made (x .next)) (λ q ws. id⊢ 𝓤 _) T.Laws.lowered
         (LL.tells (T.the-type α) (T.Laws.the-laws α))
         (and-then ! (get ! 44 refl) (and-then ! (get-field ! 26 refl refl refl) (no-more !))) (λ q made is.
@@ -309,20 +306,19 @@ module _ {M : Type 1} (𝓤 : URA M) (H : Heap 𝓤) (A : Atoms 𝓤) (W : Given
         rewrite ! 0 OwnR (one-reader q (rd (x .next)) made) refl $
         assigns-last ! (bin ! (get ! 25 refl) (lit ! tt) (record { fits = k-fits .1 })) (from ! (stop !))
         (store ! 25 refl (tt, record { fits = k-fits .1 })) $ forget ! 27 refl $ forget ! 31 refl $ forget ! 33 refl $
-        forget ! 35 refl $ forget ! 37 refl $ forget ! 39 refl $ forget ! 41 refl $ forget ! 43 refl $
-        forget ! 45 refl $
-        move ! (2 ∷ 3 ∷ 4 ∷ 5 ∷ 1 ∷ 6 ∷ 0 ∷ []) $
-        again ! Nearer At w (writing-two w (x .next) (λ _. f .yields) (x .start) (x .end) (f .split))
-        (nearer (w .k) n less)))))))
+        forget ! 35 refl $ forget ! 37 refl $ forget ! 39 refl $ forget ! 41 refl $
+        forget ! 43 refl $ forget ! 45 refl $ move ! (2 ∷ 3 ∷ 4 ∷ 5 ∷ 1 ∷ 6 ∷ 0 ∷ []) $
+        again ! Nearer At w (writing-two w (x .next) (λ _. f .yields) (x .start) (x .end)
+        (f .split)) (nearer (w .k) n less)))))))
     turn-at w false e =
         puts ! (bin ! (get ! 25 refl) (get ! 21 refl) tt) 31 refl (tt, tt) $
         rewrite ! 31 (λ (z : Bool). holds 𝓤 H En 12 (vbool z)) e refl $ leaves-loop ! (get ! 31 refl) $
-        exec ! (𝓣 .C) (𝓣 .Λ) En code.Mir.t-7 (atRet En Post) $ closes-slice ! tt u32 (d .xs) (w .out) (w .kept) (d .b)
-        (d .o) $
+        exec ! (𝓣 .C) (𝓣 .Λ) En code.Mir.t-7 (atRet En Post) $
+        closes-slice ! tt u32 (d .xs) (w .out) (w .kept) (d .b) (d .o) $
         -- [obs; the borrow; out's token; table's token; what table owns; what the reader owns; _0; …]
         move ! (5 ∷ []) $ drop ! $ puts ! (of-opd ! (get-field ! 17 refl refl refl)) 5 refl
-        (EL.lawful F.the-type F.Laws.the-laws 𝓤 H A W tt .typed (t .answer) _ is-answer .0) $
-        gives-back ! (look ! 5 refl) $
+        (EL.lawful F.the-type F.Laws.the-laws 𝓤 H A W tt .typed (t .answer) _
+        is-answer .0) $ gives-back ! (look ! 5 refl) $
         free-all ! (code.function .locals) bs (values (some (F.Laws.lowered (t .answer))) w (some (vbool false)))
         (shut 𝓤 d (w .out)) $ by ! (returns t p is-answer w (nltb→le (w .k) n
         (subst (λ (z : Bool). Holds (not z)) (sym e) tt)))
@@ -341,24 +337,23 @@ module _ {M : Type 1} (𝓤 : URA M) (H : Heap 𝓤) (A : Atoms 𝓤) (W : Given
       (init ! 13 refl (tt, record { fits = d .hi-fits })) $
       pass1 ! (init ! 15 refl (tt, (tt, (record { fits = d .room .0 }, tt)))) $ pass0 ! $
       -- [obs; the borrow; out's token; table's token; what table owns; _0; …]: `plan_drain`
-      puts ! (of-opd ! (get-field ! 15 refl refl refl)) 27 refl (tt, record { fits = d .room .0 }) $
-      move ! (3 ∷ 4 ∷ []) $
-      use2 W (raw (PlanAt .pre to-plan) ⊛ ‵ (Own d))
+      puts ! (of-opd ! (get-field ! 15 refl refl refl)) 27 refl
+      (tt, record { fits = d .room .0 }) $ move ! (3 ∷ 4 ∷ []) $ use2 W (raw (PlanAt .pre to-plan) ⊛ ‵ (Own d))
       (handed W d usize (length (d .xs)) _ (uint-makes 𝓤 H A W w64) (refl, d .room .0) _ (id⊢ 𝓤 (emp 𝓤))) $ split ! $
-      hears ! fm plan.ended (plan.clauses 𝓤 H A mem run) (known .0) to-plan Tok (fst∗ 𝓤 _ (emp 𝓤)) Plans
-      (λ r ws. id⊢ 𝓤 _)
+      hears ! fm plan.ended (plan.clauses 𝓤 H A mem run) (known .plans) to-plan Tok
+      (fst∗ 𝓤 _ (emp 𝓤)) Plans (λ r ws. id⊢ 𝓤 _)
       K.Laws.lowered (K.Laws.the-field-laws .low-is) (and-then ! (get ! 7 refl) (and-then ! (get ! 9 refl)
-      (and-then ! (get ! 11 refl) (and-then ! (get ! 13 refl) (and-then ! (get ! 27 refl) (no-more !)))))) (λ t p is.
-      drop ! $ land ! (from ! (stop !)) (init ! 17 refl (LL.lawful K.the-type K.Laws.the-laws 𝓤 H A W .typed t _ is
-      .0)) $
+      (and-then ! (get ! 11 refl) (and-then ! (get ! 13 refl) (and-then ! (get ! 27 refl) (no-more !))))))
+      (λ t p is. drop ! $ land ! (from ! (stop !))
+      (init ! 17 refl (LL.lawful K.the-type K.Laws.the-laws 𝓤 H A W .typed t _ is .0)) $
       -- [table's token; what table owns; obs; the borrow; out's token; _0; …]: `new`
       puts ! (of-opd ! (get-field ! 17 refl refl refl)) 19 refl (tt, record { fits = n-fits 𝓣 known bs t p is }) $
-      use2 W (raw (NewAt .pre (to-new (t .cursor))) ⊛ ‵ (Own d)) (goes-new (t .cursor) (is-cursor 𝓣 known bs t p is)) $
-      split ! $
-      hears ! fm new.ended (new.clauses 𝓤 H A mem run) (known .1 .0) (to-new (t .cursor)) Tok (fst∗ 𝓤 _ (emp 𝓤))
+      use2 W (raw (NewAt .pre (to-new (t .cursor))) ⊛ ‵ (Own d))
+      (goes-new (t .cursor) (is-cursor 𝓣 known bs t p is)) $ split ! $
+      hears ! fm new.ended (new.clauses 𝓤 H A mem run) (known .makes) (to-new (t .cursor)) Tok (fst∗ 𝓤 _ (emp 𝓤))
       (Made (t .cursor)) (λ r ws. id⊢ 𝓤 _) T.Laws.lowered (LL.tells (T.the-type α) (T.Laws.the-laws α))
-      (and-then ! (get ! 7 refl) (and-then ! (get ! 9 refl) (and-then ! (get-field ! 17 refl refl refl) (no-more !))))
-      (λ r made is-r.
+      (and-then ! (get ! 7 refl) (and-then ! (get ! 9 refl)
+      (and-then ! (get-field ! 17 refl refl refl) (no-more !)))) (λ r made is-r.
       -- [what the reader owns; table's token; what table owns; obs; the borrow; out's token; _0; …]
       land ! (from ! (stop !)) (init ! 22 refl (typed r is-r)) $
       rewrite ! 22 (λ (q : RangeReader). holds 𝓤 H (En 𝓣 known bs t p is) 8 (T.Laws.lowered q))
@@ -374,23 +369,13 @@ drain-spec 𝓤 H 𝓜 𝓖 𝓡 =
     let A = 𝓖 .A in
     let W = givenOf 𝓤 H 𝓜 𝓖 in
     let E = u32 in
-    by-hand 𝓤 H 𝓜 𝓖 𝓡 drain.ended (drain.clauses 𝓤 H A (𝓜 .mem) (𝓡 .run)) code.env drain.Key.name code.function (stayed E) (spelt E)
-    (code.unfolded 𝓤 H 𝓜 𝓡) (gone E 𝓤 H A W) (tells E) (λ κs qs os a g are.
-    walk 𝓤 H A W (𝓜 .mem) (𝓡 .run) (callOf E κs qs a are) (tablesOf 𝓤 H 𝓜 (tables 𝓤 H 𝓜 𝓡 code.env)) (
-      cited 𝓤 H _ 𝓜 𝓡 code.env plan.Symbol.name plan.Symbol.routine code.calls-ranges·reader·plan-drain
-          (plan.Met.met 𝓤 H 𝓜 𝓖 𝓡),
-      (
-        cited 𝓤 H _ 𝓜 𝓡 code.env new.Symbol.name new.Symbol.routine code.calls-ranges·reader·new
-            (new.Met.met 𝓤 H 𝓜 𝓖 𝓡),
-        (
-          cited 𝓤 H _ 𝓜 𝓡 code.env next.Symbol.name next.Symbol.routine code.calls-ranges·reader·next
-              (next.Met.met 𝓤 H 𝓜 𝓖 𝓡),
-          (
-            cited 𝓤 H _ 𝓜 𝓡 code.env taken.Symbol.name taken.Symbol.routine code.calls-ranges·reader·taken
-                (taken.Met.met 𝓤 H 𝓜 𝓖 𝓡),
-            cited 𝓤 H _ 𝓜 𝓡 code.env moved.Symbol.name moved.Symbol.routine code.calls-ranges·reader·moved
-                (moved.Met.met 𝓤 H 𝓜 𝓖 𝓡),
-          ),
-        ),
-      ),
-    ))
+    let at = cites 𝓤 H 𝓜 𝓡 code.env in
+    by-hand 𝓤 H 𝓜 𝓖 𝓡 drain.ended (drain.clauses 𝓤 H A (𝓜 .mem) (𝓡 .run)) code.env drain.Key.name code.function
+    (stayed E) (spelt E) (code.unfolded 𝓤 H 𝓜 𝓡) (gone E 𝓤 H A W) (tells E) (λ κs qs os a g are.
+    walk 𝓤 H A W (𝓜 .mem) (𝓡 .run) (callOf E κs qs a are) (tablesOf 𝓤 H 𝓜 (tables 𝓤 H 𝓜 𝓡 code.env)) (record {
+      plans = at plan.Symbol.name plan.Symbol.routine code.calls-ranges·reader·plan-drain _ (plan.Met.met 𝓤 H 𝓜 𝓖 𝓡);
+      makes = at new.Symbol.name new.Symbol.routine code.calls-ranges·reader·new _ (new.Met.met 𝓤 H 𝓜 𝓖 𝓡);
+      steps = at next.Symbol.name next.Symbol.routine code.calls-ranges·reader·next _ (next.Met.met 𝓤 H 𝓜 𝓖 𝓡);
+      takes = at taken.Symbol.name taken.Symbol.routine code.calls-ranges·reader·taken _ (taken.Met.met 𝓤 H 𝓜 𝓖 𝓡);
+      moves = at moved.Symbol.name moved.Symbol.routine code.calls-ranges·reader·moved _ (moved.Met.met 𝓤 H 𝓜 𝓖 𝓡);
+    }))

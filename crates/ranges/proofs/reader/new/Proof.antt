@@ -69,8 +69,8 @@ module _ {M : Type 1} (𝓤 : URA M) (H : Heap 𝓤) (A : Atoms 𝓤) (W : Given
       pass1 ! (init ! 6 refl wv) $ pass1 ! (init ! 8 refl wc) $ pass0 ! $
       puts ! (agg ! (and-then ! (get ! 4 refl) (and-then ! (get ! 6 refl) (and-then ! (get ! 8 refl) (no-more !)))))
       2 refl (tt, (tt, (wv .1, (wc .1, tt)))) $ gives-back ! (look ! 2 refl) $
-      free-all ! (code.function .locals) bs (some (T.Laws.lowered r) ∷ some (vbool (r .present)) ∷ some v ∷ some u ∷ []) entry $
-      by ! (returns pc))
+      free-all ! (code.function .locals) bs
+      (some (T.Laws.lowered r) ∷ some (vbool (r .present)) ∷ some v ∷ some u ∷ []) entry $ by ! (returns pc))
 
 pub new-spec : {M : Type 1} → new.Statement.statement M
 unfolding code.routine tablesOf

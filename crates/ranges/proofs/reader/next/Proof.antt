@@ -8,8 +8,8 @@ use words.{Routine, Heap, WpFn, Tables, Atoms, fmOf, Lfts, Fun, givenOf, tables,
 use words.{move, raw, _⊛_, use1, split, _∵_, !, qed, drop, join, fsplit, fjoin, frame, done, by, use2, suffices, given}
 use words.{learn, look, init, stop, from, of-opd, and-then, no-more, land, gives-back, enter, params1, pass1, pass0}
 use words.{bool, yes, Is, bool-makes, RattleType, owns, now, NamedLft, namedLft, sliceVal, owned, nothing, Declared}
-use words.{all-own, ownAt, rest, own-open, own-out, Values, Contract, Triple, cited, Stays, walkOf, stay-none}
-use words.{goes-none, says, ends-at}
+use words.{all-own, ownAt, rest, own-open, own-out, Values, Contract, Triple, Stays, walkOf, stay-none, goes-none, says}
+use words.{ends-at}
 use denote.Enum.Laws as EL
 use denote.Struct.Laws as LL
 use Rattle.omap.specs.Step.{toldStep, stepSpec}
@@ -20,7 +20,7 @@ use Rattle.omap.proofs.cursor.Step as S
 use Rattle.omap.proofs.cursor.Cursor.step as step
 use Rattle.ranges.proofs.Locals.{alloc-all, free-all, get, get-field, puts}
 use Rattle.ranges.proofs.Calling.{Agreed, hears}
-use Rattle.ranges.proofs.Hand.{by-hand}
+use Rattle.ranges.proofs.Hand.{by-hand, cites}
 use Rattle.ranges.proofs.reader.RangeReader as T
 use Rattle.ranges.proofs.reader.next as next
 use Rattle.ranges.proofs.reader.next.Code as code
@@ -121,8 +121,8 @@ module _ {M : Type 1} (𝓤 : URA M) (H : Heap 𝓤) (A : Atoms 𝓤) (W : Given
       (λ z ws. id⊢ 𝓤 _) S.Laws.lowered (S.Laws.the-field-laws .low-is)
       (and-then ! (get ! 6 refl) (and-then ! (get ! 8 refl) (and-then ! (get ! 10 refl) (no-more !)))) (λ z e is.
       -- [the answer; the token; what the struct owns; _0; …]
-      land ! (from ! (stop !)) (init ! 3 refl (EL.lawful S.the-type S.Laws.the-laws 𝓤 H A W tt .typed z _ is .0)) $
-      gives-back ! (look ! 3 refl) $
+      land ! (from ! (stop !)) (init ! 3 refl
+      (EL.lawful S.the-type S.Laws.the-laws 𝓤 H A W tt .typed z _ is .0)) $ gives-back ! (look ! 3 refl) $
       free-all ! (code.function .locals) bs (some (S.Laws.lowered z) ∷ some u ∷ some (Cu.Laws.lowered (r .cursor))
       ∷ some (vbool (r .present)) ∷ some v ∷ []) (left z) $ by ! (returns z e)))
 
@@ -137,4 +137,5 @@ next-spec 𝓤 H 𝓜 𝓖 𝓡 =
     (λ κs. (LL.vals (T.the-type (α κs)) (T.Laws.the-laws (α κs)), tt)) (code.unfolded 𝓤 H 𝓜 𝓡)
     (goes-none 𝓤 H A W 1 B yes (λ κs x f. refl), tt) (λ κs. (LL.tells (T.the-type (α κs)) (T.Laws.the-laws (α κs)), tt))
     (λ κs qs os a g are. walk 𝓤 H A W (𝓜 .mem) (𝓡 .run) (κs .0) (qs .0) (a .0) (tablesOf 𝓤 H 𝓜 𝓣)
-    (cited 𝓤 H _ 𝓜 𝓡 code.env step.Symbol.name step.Symbol.routine code.calls-omap·cursor·Cursor·step (step.Met.met 𝓤 H 𝓜 𝓖 𝓡)) (are .0))
+    (cites 𝓤 H 𝓜 𝓡 code.env step.Symbol.name step.Symbol.routine code.calls-omap·cursor·Cursor·step _
+    (step.Met.met 𝓤 H 𝓜 𝓖 𝓡)) (are .0))
