@@ -1,4 +1,5 @@
--- Each promise leaves one answer, and one output. Of `next` this is omap's `one-step`, and of `drain` omap's `one-window`.
+-- Each promise leaves one answer, and one output. Of `next` this is omap's `one-step`, and of `drain` omap's
+-- `one-window`.
 -- Assumes nothing.
 use mathlib.Core.Path.{_≡_, refl, sym, ap, _∙_}
 use Prim.Native.Nat.{ℕ, _*_, _/_}

@@ -61,12 +61,14 @@ module _ {present : Bool} {s : List ℕ} {a b places : ℕ} {t : WindowPlan} (p 
 
     pub drain-refused : (n : ℕ) → refused n ≡ startSpec present s a b → (c : Cursor)
         → DrainPlanned present s a b places (record { answer = t .answer; numbers = 0; cursor = c })
-    drain-refused n e c = record {
-      told = p .told;
-      number = omega (arith, unwritten s a b (places / 2) n present e, length-flat (toWrite present s a b (places / 2)));
-      enough = omega arith;
-      gives = λ h. absurd (omega arith);
-    }
+    drain-refused n e c =
+        let none : length (toWrite present s a b (places / 2)) ≡ 0 = unwritten s a b (places / 2) n present e in
+        record {
+          told = p .told;
+          number = omega (arith, length-flat (toWrite present s a b (places / 2)));
+          enough = omega arith;
+          gives = λ h. absurd (omega arith);
+        }
 
 pub to-drain-out : (present : Bool) (s : List ℕ) (a b : ℕ) (out : List ℕ)
     → writtenOver (flat (toWrite present s a b (length out / 2))) out ≡ windowOut present s a b out

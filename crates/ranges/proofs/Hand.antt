@@ -20,7 +20,8 @@ module _ {M : Type 1} (𝓤 : URA M) (H : Heap 𝓤) (𝓜 : Model 𝓤 H) (𝓖
   abbrev Walked : Type 1
   Walked =
       (κs : Lfts (T .signature .lifetimes)) (qs : Shares (T .signature .lifetimes))
-      (os : AllOutlive (T .signature .lifetimes) (T .signature .outlives) κs) (a : Args (T .signature) κs) (g : c κs a .ghost)
+      (os : AllOutlive (T .signature .lifetimes) (T .signature .outlives) κs) (a : Args (T .signature) κs)
+      (g : c κs a .ghost)
       → Are (Rows κs) (Ises (Rows κs)) a (valss (Rows κs) (sp κs) a)
       → ent 𝓤 (onEntry 𝓤 H (𝓖 .A) (T .signature) κs qs a (valss (Rows κs) (sp κs) a))
       (WpFn 𝓤 H (𝓣 .C) (𝓣 .Λ) f (in-a-row (Rows κs) (valss (Rows κs) (sp κs) a))
@@ -36,9 +37,10 @@ module _ {M : Type 1} (𝓤 : URA M) (H : Heap 𝓤) (𝓜 : Model 𝓤 H) (𝓖
       let run = WpFn 𝓤 H (𝓣 .C) (𝓣 .Λ) f in
       entered 𝓤 H (Agreed 𝓤 H (𝓖 .A) T c) (𝓣 .C) (𝓣 .Λ) k f closed
       (walk-meets 𝓤 H (𝓖 .A) T hs W gs c run (WpFn-mono 𝓤 H (W .laws) 𝓣 f)
-      (walked 𝓤 H (𝓖 .A) T hs c run sp tl (λ κs qs os a g are. via 𝓤 _ (fst∗ 𝓤 _ (c κs a .requires g)) (walk κs qs os a g are))))
+      (walked 𝓤 H (𝓖 .A) T hs c run sp tl
+      (λ κs qs os a g are. via 𝓤 _ (fst∗ 𝓤 _ (c κs a .requires g)) (walk κs qs os a g are))))
 
 -- a callee's theorem, at its entry
-pub cites : {M : Type 1} (𝓤 : URA M) (H : Heap 𝓤) (𝓜 : Model 𝓤 H) (𝓡 : Running 𝓤 H 𝓜) (γ : Routines) (k : Name) (r : Routine)
-    → γ k ≡ r → (c : Contract 𝓤) → Triple 𝓤 (𝓡 .run r) c → Triple 𝓤 (tables 𝓤 H 𝓜 𝓡 γ .C k) c
+pub cites : {M : Type 1} (𝓤 : URA M) (H : Heap 𝓤) (𝓜 : Model 𝓤 H) (𝓡 : Running 𝓤 H 𝓜) (γ : Routines) (k : Name)
+    (r : Routine) → γ k ≡ r → (c : Contract 𝓤) → Triple 𝓤 (𝓡 .run r) c → Triple 𝓤 (tables 𝓤 H 𝓜 𝓡 γ .C k) c
 cites 𝓤 H 𝓜 𝓡 γ k r e c t = cited 𝓤 H c 𝓜 𝓡 γ k r e t

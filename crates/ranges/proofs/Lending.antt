@@ -1,11 +1,11 @@
--- What the walks of `list` and of `drain` have in common: both take a mark, a table, a window and a lent output of entries E,
--- and hand all but the output to covered functions.
+-- What the walks of `list` and of `drain` have in common: both take a mark, a table, a window and a lent output of
+-- entries E, and hand all but the output to covered functions.
 -- Assumes nothing.
 use Rattle.ranges.proofs.Words as words
 use words.{Bool, List, [], _∷_, _++_, Option, some, _≡_, refl, sym, subst, ap, ℕ, _<_, _^_, length, fullShare, URA}
 use words.{named, w32, Val, vbool, vint, Share, Fml, Lft, GName, ftrue, flft, fobs, fauth, fbor, fobor, ent, SProp, emp}
-use words.{Gv, Heap, Atoms, Lfts, Shares, Given, Item, ‵, ⋆, Goal, Rule, step, _$_, move, raw, _⊛_, use1, split, _∵_, ! }
-use words.{qed, drop, use0, join, fsplit, fjoin, frame, done, u8, u32, bool, yes, row, Is, Are, Ises, Spells, valss}
+use words.{Gv, Heap, Atoms, Lfts, Shares, Given, Item, ‵, ⋆, Goal, Rule, step, _$_, move, raw, _⊛_, use1, split, _∵_}
+use words.{ !, qed, drop, use0, join, fsplit, fjoin, frame, done, u8, u32, bool, yes, row, Is, Are, Ises, Spells, valss}
 use words.{Tellss, Makes, Held, uint-vals, uint-tells, uint-makes, bool-vals, bool-tells, bool-makes, RattleType}
 use words.{Denots, owns, RefT, now, pureI, typesAt, Slot, plain, shrSliceOf, mutSliceOf, sliceVal, MutSlice, ShrSlice}
 use words.{heres, Room, slice-vals, mut-slice-tells, shr-slice-tells, shr-slice-copy, at-slice, codedHoleys, owned}
@@ -167,8 +167,8 @@ module _ {M : Type 1} {𝓤 : URA M} {H : Heap 𝓤} {A : Atoms 𝓤} (W : Given
         owned t bool (Is bool) (bool-makes 𝓤 H A W) (d .on) _ refl $ fjoin t $ nothing t $ move t (2 ∷ 0 ∷ []) $
         join t $ move t (2 ∷ 0 ∷ []) $ join t $ z)
 
-  -- what a callee is handed that takes the mark, the table, the window and one value more: a copy of what the table owns, and
-  -- what the others own, made anew, beside what the callee requires
+  -- what a callee is handed that takes the mark, the table, the window and one value more: a copy of what the table
+  -- owns, and what the others own, made anew, beside what the callee requires
   pub handed : (R : RattleType) (y : R .Denot) (u : Val) → Makes 𝓤 H A R (Is R) → Is R y (u ∷ []) → (P : SProp 𝓤)
       → ent 𝓤 (emp 𝓤) P
       → ent 𝓤 (⋆ 𝓤 H A (‵ (flft (d .κ₀) (d .q₀)) ∷ ‵ (Own d) ∷ []))

@@ -1,5 +1,5 @@
--- The locals of a walk by hand, all at once: allocated, held behind what else the walk has, and freed. In a context that has R
--- entries before them local k stands at R + 2 · k, and what frees it right after it.
+-- The locals of a walk by hand, all at once: allocated, held behind what else the walk has, and freed. In a context
+-- that has R entries before them local k stands at R + 2 · k, and what frees it right after it.
 -- Assumes nothing.
 use Rattle.ranges.proofs.Words as words
 use words.{List, [], _∷_, _++_, Option, none, some, _≡_, refl, sym, subst, ℕ, zero, Holds, fullShare, URA, getV, Sym}

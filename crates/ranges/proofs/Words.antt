@@ -28,7 +28,8 @@ pub use contract.Lifetimes.{Lfts, Shares, AllOutlive}
 pub use contract.Monad.{fact, Fun, factI}
 pub use contract.Running.{GhostRules, Running, givenOf, tables}
 unfoldable pub use contract.Running.{tablesOf}
-pub use types.Kit.{Given, Item, ‵, mean, ⋆, push, pop, ++⊢, ⊢++, nth, put, Post as Posts, Goal, runs, allocs, frees, Seq, Step as Rule}
+pub use types.Kit.{Given, Item, ‵, mean, ⋆, push, pop, ++⊢, ⊢++, nth, put, Post as Posts, Goal, runs, allocs, frees}
+pub use types.Kit.{Seq, Step as Rule}
 pub use types.Kit.{step, _$_, move, raw, _⊛_, later, lands, use1, split, pick, await, _∵_, !, qed, drop, use0, join}
 pub use types.Kit.{fsplit, fjoin, frame, done, anyQ, atRet, Sq, by, use2, rewrite, suffices, given, learn}
 pub use types.Part.{Part, whole, sub, look-in, agg}

@@ -1,4 +1,5 @@
--- A loop that writes so many entries: those left to write, written onto the output as it is, give the output as it will be.
+-- A loop that writes so many entries: those left to write, written onto the output as it is, give the output as it will
+-- be.
 -- Assumes nothing.
 use mathlib.Core.Path.{_≡_, refl, sym, ap, _∙_}
 use Prim.Native.Nat.{ℕ, _+_, _-_, _≤_, _<_}

@@ -1,4 +1,5 @@
--- What the crate's own functions hand each other: a plan, and one piece after another. No public promise cites this file.
+-- What the crate's own functions hand each other: a plan, and one piece after another. No public promise cites this
+-- file.
 use Prim.Native.Nat.{ℕ, _/_, _≤_, _<_}
 use mathlib.Core.Path.{_≡_}
 use mathlib.Core.Bool.{Bool, true}

@@ -1,8 +1,11 @@
--- `ranges::list` meets its contract: a walk of its MIR, by hand, with a loop. The list's borrow is opened once, before the loop,
--- and closed once, after it; between the two the row of records is the function's own. `plan` says what is answered, how many
--- pieces are written and where they are; a turn calls `pull`, which gives the next piece and the span behind it.
---     At w             the loop's invariant, at a state w of proofs/Writing. The variant is what is left of n (`Nearer`)
---     turn-at          a turn, by how its test comes out: it stores one piece, or it leaves the loop and the rest of the body runs
+-- `ranges::list` meets its contract: a walk of its MIR, by hand, with a loop. The list's borrow is opened once, before
+-- the loop, and closed once, after it; between the two the row of records is the function's own. `plan` says what is
+-- answered, how many pieces are written and where they are; a turn calls `pull`, which gives the next piece and the
+-- span behind it.
+--     At w             the loop's invariant, at a state w of proofs/Writing. The variant is what is left of n
+--                      (`Nearer`)
+--     turn-at          a turn, by how its test comes out: it stores one piece, or it leaves the loop and the rest of
+--                      the body runs
 -- Assumes nothing.
 use Rattle.ranges.proofs.Words as words
 use words.{Bool, true, false, not, List, [], _∷_, _++_, Option, none, some, _≡_, refl, sym, subst, ℕ, _<_, _^_, _+_}
@@ -132,8 +135,8 @@ module _ {M : Type 1} (𝓤 : URA M) (H : Heap 𝓤) (A : Atoms 𝓤) (W : Given
     -- the values of _0 to _12
     abbrev values : Option Val → State n → Option Val → List (Option Val)
     values r w z =
-        params d r (some (K.Laws.lowered t) ∷ some (vint w64 n) ∷ some
-        (Sp.Laws.lowered (w .at)) ∷ some (vint w64 (w .k)) ∷ none ∷ some (vint w64 (length (d .xs))) ∷ z ∷ [])
+        params d r (some (K.Laws.lowered t) ∷ some (vint w64 n) ∷ some (Sp.Laws.lowered (w .at))
+        ∷ some (vint w64 (w .k)) ∷ none ∷ some (vint w64 (length (d .xs))) ∷ z ∷ [])
 
     abbrev At : State n → List (Item 𝓤)
     At w = opened 𝓤 d (w .out) ++ held 𝓤 (code.function .locals) bs (values none w none)
@@ -168,10 +171,9 @@ module _ {M : Type 1} (𝓤 : URA M) (H : Heap 𝓤) (A : Atoms 𝓤) (W : Given
         G.Laws.lowered (G.Laws.the-field-laws .low-is)
         (and-then ! (get ! 8 refl) (and-then ! (get ! 10 refl) (and-then ! (get ! 12 refl)
         (and-then ! (get ! 14 refl) (and-then ! (get ! 22 refl) (no-more !)))))) (λ r u is.
-        let is-piece : Is P.the-row (r .piece) (P.Laws.lowered (r .piece) ∷ []) = LL.owed G.the-type G.Laws.the-laws r
-        _ is .0 in
-        let is-rest : Is Sp.the-row (r .rest) (Sp.Laws.lowered (r .rest) ∷ []) = LL.owed G.the-type G.Laws.the-laws r _
-        is .1 .0 in
+        let fields = LL.owed G.the-type G.Laws.the-laws r _ is in
+        let is-piece : Is P.the-row (r .piece) (P.Laws.lowered (r .piece) ∷ []) = fields .0 in
+        let is-rest : Is Sp.the-row (r .rest) (Sp.Laws.lowered (r .rest) ∷ []) = fields .1 .0 in
         drop ! $ land ! (from ! (stop !))
         (init ! 26 refl (LL.lawful G.the-type G.Laws.the-laws 𝓤 H A W .typed r _ is .0)) $
         -- [table's token; what table owns; the row; the open borrow; obs; auth; _0; …]
@@ -204,8 +206,8 @@ module _ {M : Type 1} (𝓤 : URA M) (H : Heap 𝓤) (A : Atoms 𝓤) (W : Given
         closes-slice ! tt P.the-row (d .xs) (w .out) (w .kept) (d .b) (d .o) $
         -- [obs; the borrow; out's token; table's token; what table owns; _0; …]
         puts ! (of-opd ! (get-field ! 17 refl refl refl)) 5 refl
-        (EL.lawful F.the-type F.Laws.the-laws 𝓤 H A W tt .typed (t .answer) _
-        is-answer .0) $ gives-back ! (look ! 5 refl) $
+        (EL.lawful F.the-type F.Laws.the-laws 𝓤 H A W tt .typed (t .answer) _ is-answer .0) $
+        gives-back ! (look ! 5 refl) $
         free-all ! (code.function .locals) bs (values (some (F.Laws.lowered (t .answer))) w (some (vbool false)))
         (shut 𝓤 d (w .out)) $ by ! (returns t p is-answer w (nltb→le (w .k) n
         (subst (λ (z : Bool). Holds (not z)) (sym e) tt)))
@@ -219,16 +221,16 @@ module _ {M : Type 1} (𝓤 : URA M) (H : Heap 𝓤) (A : Atoms 𝓤) (W : Given
       qed W (entry 𝓤 d (d .xs)) ∵ apart W d ! $ enter ! (𝓣 .C) (𝓣 .Λ) code.function (flatly d) _ $ alloc-all ! (λ bs.
       params1 ! $ pass1 ! (init ! 7 refl (tt, tt)) $
       pass1 ! (init ! 9 refl (shr-slice-lawful 𝓤 H A W (named 0) (d .κ₀) u8 .typed (d .s) (v d ∷ []) (d .is-s) .0)) $
-      pass1 ! (init ! 11 refl (tt, record { fits = d .lo-fits })) $ pass1 !
-      (init ! 13 refl (tt, record { fits = d .hi-fits })) $
+      pass1 ! (init ! 11 refl (tt, record { fits = d .lo-fits })) $
+      pass1 ! (init ! 13 refl (tt, record { fits = d .hi-fits })) $
       pass1 ! (init ! 15 refl (tt, (tt, (record { fits = d .room .0 }, tt)))) $ pass0 ! $
       -- [obs; the borrow; out's token; table's token; what table owns; _0; …]: `plan`
       puts ! (of-opd ! (get-field ! 15 refl refl refl)) 27 refl
       (tt, record { fits = d .room .0 }) $ move ! (3 ∷ 4 ∷ []) $ use2 W (raw (PlanAt .pre to-plan) ⊛ ‵ (Own d))
       (handed W d usize (length (d .xs)) _ (uint-makes 𝓤 H A W w64) (refl, d .room .0) _ (id⊢ 𝓤 (emp 𝓤))) $ split ! $
-      hears ! (fmOf 𝓤 H (W .laws) 𝓣) plan.ended (plan.clauses 𝓤 H A mem run) (known .plans) to-plan Tok (fst∗ 𝓤 _ (emp 𝓤))
-      Plans (λ r ws. id⊢ 𝓤 _) K.Laws.lowered (K.Laws.the-field-laws .low-is) (and-then ! (get ! 7 refl)
-      (and-then ! (get ! 9 refl) (and-then ! (get ! 11 refl)
+      hears ! (fmOf 𝓤 H (W .laws) 𝓣) plan.ended (plan.clauses 𝓤 H A mem run) (known .plans) to-plan Tok
+      (fst∗ 𝓤 _ (emp 𝓤)) Plans (λ r ws. id⊢ 𝓤 _) K.Laws.lowered (K.Laws.the-field-laws .low-is)
+      (and-then ! (get ! 7 refl) (and-then ! (get ! 9 refl) (and-then ! (get ! 11 refl)
       (and-then ! (get ! 13 refl) (and-then ! (get ! 27 refl) (no-more !))))))
       (λ t p is. drop ! $ land ! (from ! (stop !))
       (init ! 17 refl (LL.lawful K.the-type K.Laws.the-laws 𝓤 H A W .typed t _ is .0)) $

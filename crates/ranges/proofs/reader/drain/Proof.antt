@@ -1,9 +1,11 @@
--- `ranges::reader::drain` meets its contract: a walk of its MIR, by hand, with a loop, as that of `list`. `plan_drain` says what is
--- answered and how many numbers are written, and gives the cursor; `new` makes a reader of it. A turn calls `next` on the reader,
--- `taken` on the answer, stores the piece's two numbers, and calls `moved` for the reader that has gone on. A reader is Copy: what
--- it owns is had twice, and one goes to `next`.
---     At w             the loop's invariant, at a state w of proofs/Writing. The variant is what is left of n (`Nearer`)
---     turn-at          a turn, by how its test comes out: it stores one piece, or it leaves the loop and the rest of the body runs
+-- `ranges::reader::drain` meets its contract: a walk of its MIR, by hand, with a loop, as that of `list`. `plan_drain`
+-- says what is answered and how many numbers are written, and gives the cursor; `new` makes a reader of it. A turn
+-- calls `next` on the reader, `taken` on the answer, stores the piece's two numbers, and calls `moved` for the reader
+-- that has gone on. A reader is Copy: what it owns is had twice, and one goes to `next`.
+--     At w             the loop's invariant, at a state w of proofs/Writing. The variant is what is left of n
+--                      (`Nearer`)
+--     turn-at          a turn, by how its test comes out: it stores one piece, or it leaves the loop and the rest of
+--                      the body runs
 -- Assumes nothing.
 use Rattle.ranges.proofs.Words as words
 use words.{Bool, true, false, not, List, [], _∷_, _++_, Option, none, some, _≡_, refl, sym, subst, ap, _∙_, ℕ, _<_, _^_}
@@ -16,7 +18,7 @@ use words.{assigns, store, hop, lit, of-opd, and-then, no-more, bin, assigns-las
 use words.{leaves-loop, gives-back, enter, params1, pass1, pass0, exec, Below, again, loops, u8, u32, bool, usize}
 use words.{place-is, elem-out, elem-put, opens-slice, closes-slice, Is, shows, uint-vals, uint-tells, uint-makes}
 use words.{bool-makes, RattleType, now, NamedLft, namedLft, shr-slice-copy, shr-slice-lawful, peeks, owned, nothing}
-use words.{Clauses, Contract, Triple, walkOf, says, ends-at}
+use words.{Clauses, Vals, Contract, Triple, walkOf, says, ends-at}
 use denote.Enum.Laws as EL
 use denote.Struct.Laws as LL
 use Rattle.omap.specs.Output.{windowOut}
@@ -122,7 +124,8 @@ module _ {M : Type 1} (𝓤 : URA M) (H : Heap 𝓤) (A : Atoms 𝓤) (W : Given
 
   abbrev to-new : Cursor → NewAt .Ghost
   to-new c =
-      (((d .κ₀, tt), (d .q₀, tt), tt, (d .on, (d .s, (c, tt))), (vbool (d .on) ∷ [], (v d ∷ [], (Cu.Laws.lowered c ∷ [], tt)))), tt)
+      let spelt-out : Vals new.signature (d .κ₀, tt) = (vbool (d .on) ∷ [], (v d ∷ [], (Cu.Laws.lowered c ∷ [], tt))) in
+      (((d .κ₀, tt), (d .q₀, tt), tt, (d .on, (d .s, (c, tt))), spelt-out), tt)
 
   goes-new : (c : Cursor) → Is Cu.the-row c (Cu.Laws.lowered c ∷ [])
       → ent 𝓤 (⋆ 𝓤 H A (Tok ∷ ‵ (Own d) ∷ [])) (⋆ 𝓤 H A (raw (NewAt .pre (to-new c)) ∷ ‵ (Own d) ∷ []))
@@ -241,13 +244,13 @@ module _ {M : Type 1} (𝓤 : URA M) (H : Heap 𝓤) (A : Atoms 𝓤) (W : Given
         peeks ! R (Is R) (shows 𝓤 H A R) r (T.Laws.lowered r ∷ []) (λ is-r.
         use1 W (OwnR r ⊛ OwnR r) (LL.copy (T.the-type α) (T.Laws.the-copy α) 𝓤 H A W .twice
         r (T.Laws.lowered r ∷ [])) $ split ! $
-        -- [what the reader owns; the same; the row; the open borrow; obs; auth; table's token; what table owns; _0; …]: `next`
+        -- `next`: [what the reader owns; the same; the row; the open borrow; obs; auth; token; what table owns; _0; …]
         puts ! (of-opd ! (get ! 24 refl)) 36 refl (typed r is-r) $ move ! (0 ∷ 6 ∷ []) $
         use2 W (raw (NextAt .pre (to-next (w .at)))) (goes-next (w .at)) $
         hears ! fm next.ended (next.clauses 𝓤 H A mem run) (known .steps) (to-next (w .at)) Tok (fst∗ 𝓤 _ (emp 𝓤))
         (λ z. toldStep z ≡ stepSpec (d .on) (now (d .s)) (w .at)) (λ z ws. id⊢ 𝓤 _) S.Laws.lowered
         (S.Laws.the-field-laws .low-is) (and-then ! (get ! 35 refl) (no-more !)) (λ z e₁ is₁.
-        -- [the answer; table's token; what the reader owns; the row; the open borrow; obs; auth; what table owns; _0; …]: `taken`
+        -- `taken`: [the answer; token; what the reader owns; the row; open borrow; obs; auth; what table owns; _0; …]
         land ! (from ! (stop !)) (init ! 34 refl (EL.lawful S.the-type S.Laws.the-laws 𝓤 H A W tt .typed z _ is₁ .0)) $
         use1 W (raw (TakenAt .pre (to-taken z))) (goes-taken z) $
         hears ! fm taken.ended (taken.clauses 𝓤 H A mem run) (known .takes) (to-taken z) (raw (emp 𝓤)) (id⊢ 𝓤 _)
@@ -269,19 +272,19 @@ module _ {M : Type 1} (𝓤 : URA M) (H : Heap 𝓤) (A : Atoms 𝓤) (W : Given
         let end-fits : x .end < 2 ^ 32 = fields .1 .0 .1 in
         drop ! $ drop ! $ land ! (from ! (stop !))
         (init ! 27 refl (LL.lawful Tn.the-type Tn.Laws.the-laws 𝓤 H A W .typed x _ is₂ .0)) $
-        -- [table's token; what the reader owns; the row; the open borrow; obs; auth; what table owns; _0; …]: out[k]
+        -- out[k]: [token; what the reader owns; the row; the open borrow; obs; auth; what table owns; _0; …]
         puts ! (bin ! (get ! 25 refl) (lit ! tt) (record { fits = place₀ })) 37 refl (tt, record { fits = place₀ }) $
         puts ! (bin ! (get-field ! 17 refl refl refl) (get ! 37 refl) tt) 39 refl (tt, tt) $
         rewrite ! 39 (λ (i : ℕ). holds 𝓤 H En 16 (vptr (d .b) i))
         (sym (place-is 4 (d .o) (w .k))) refl $ move ! (2 ∷ []) $
         elem-out ! u32 (Is u32) (shows 𝓤 H A u32) (uint-vals w32) (uint-tells w32) fullShare
         (w .out) (w .k) 0 (d .b) (d .o) in₀ (λ _.
-        -- [out[k]; what it owns; the others; table's token; what the reader owns; the open borrow; obs; auth; what table owns; _0; …]
+        -- [out[k]; what it owns; the others; token; what the reader owns; open borrow; obs; auth; what table owns; …]
         assigns ! (of-opd ! (get-field ! 29 refl refl refl)) (from ! (hop ! (look ! 41 refl) (stop !)))
         (store ! 0 refl (tt, record { fits = start-fits })) $ move ! (1 ∷ []) $ drop ! $
         owned ! u32 (Is u32) (uint-makes 𝓤 H A W w32) (x .start) _ (refl, start-fits) $ move ! (1 ∷ 0 ∷ []) $
         elem-put ! u32 fullShare (w .out) (w .k) (x .start) (vint w32 (x .start) ∷ []) (d .b) (d .o) in₀ $
-        -- [the row; table's token; what the reader owns; the open borrow; obs; auth; what table owns; _0; …]: out[k + 1]
+        -- out[k + 1]: [the row; token; what the reader owns; the open borrow; obs; auth; what table owns; _0; …]
         assigns ! (bin ! (get ! 25 refl) (lit ! tt) (record { fits = k-fits .0 })) (from ! (stop !))
         (store ! 37 refl (tt, record { fits = k-fits .0 })) $
         puts ! (bin ! (get ! 37 refl) (lit ! tt) (record { fits = place₁ })) 41 refl (tt, record { fits = place₁ }) $
@@ -293,7 +296,7 @@ module _ {M : Type 1} (𝓤 : URA M) (H : Heap 𝓤) (A : Atoms 𝓤) (W : Given
         (store ! 0 refl (tt, record { fits = end-fits })) $ move ! (1 ∷ []) $ drop ! $
         owned ! u32 (Is u32) (uint-makes 𝓤 H A W w32) (x .end) _ (refl, end-fits) $ move ! (1 ∷ 0 ∷ []) $
         elem-put ! u32 fullShare once (w .k + 1) (x .end) (vint w32 (x .end) ∷ []) (d .b) (d .o) in₁ $
-        -- [the row; table's token; what the reader owns; the open borrow; obs; auth; what table owns; _0; …]: `moved`
+        -- `moved`: [the row; token; what the reader owns; the open borrow; obs; auth; what table owns; _0; …]
         puts ! (of-opd ! (get ! 23 refl)) 45 refl (typed r is-r) $ move ! (2 ∷ 1 ∷ []) $
         use2 W (raw (MovedAt .pre (to-moved (w .at) (x .next)))) (goes-moved (w .at) (x .next) (fields .1 .1 .0)) $
         hears ! fm moved.ended (moved.clauses 𝓤 H A mem run) (known .moves) (to-moved (w .at) (x .next)) Tok

@@ -1,6 +1,7 @@
--- `ranges::reader::moved` meets its contract: a walk of its MIR, by hand. A struct is made anew of the mark and the slice that the
--- one passed holds, and another cursor. The struct is Copy: what it owns is had twice, one copy is kept whole for the exit, and the
--- other, with the facts of the cursor passed in the place of the old one's, is what the result owns.
+-- `ranges::reader::moved` meets its contract: a walk of its MIR, by hand. A struct is made anew of the mark and the
+-- slice that the one passed holds, and another cursor. The struct is Copy: what it owns is had twice, one copy is kept
+-- whole for the exit, and the other, with the facts of the cursor passed in the place of the old one's, is what the
+-- result owns.
 -- Assumes nothing.
 use Rattle.ranges.proofs.Words as words
 use words.{List, [], _∷_, some, refl, length, URA, place, Val, vbool, Share, Lft, ftrue, flft, ent, SProp, Memory}
@@ -54,7 +55,8 @@ module _ {M : Type 1} (𝓤 : URA M) (H : Heap 𝓤) (A : Atoms 𝓤) (W : Given
   returns pc =
       let Own = B (κ, tt) .own r (v ∷ []) in
       qed W entry ∵
-      suffices ! _ (ends-at 𝓤 H A moved.ended stayed (moved.clauses 𝓤 H A mem run) W bound _ on (tt, (tt, tt)) (tt, (tt, tt))) $
+      suffices ! _
+      (ends-at 𝓤 H A moved.ended stayed (moved.clauses 𝓤 H A mem run) W bound _ on (tt, (tt, tt)) (tt, (tt, tt))) $
       says ! (refl, (refl, refl)) $ frame ! $ fsplit ! $
       use1 W (‵ Own ⊛ ‵ Own) (LL.copy (T.the-type α) (T.Laws.the-copy α) 𝓤 H A W .twice r (v ∷ [])) $ split ! $
       move ! (0 ∷ 2 ∷ []) $ fjoin ! $ frame ! $

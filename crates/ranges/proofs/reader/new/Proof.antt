@@ -1,6 +1,6 @@
--- `ranges::reader::new` meets its contract: a walk of its MIR, by hand. A `RangeReader` is made of the mark, the slice and the
--- cursor passed, in the result's local. A `&[u8]` is Copy, so what it owns is had twice: once for table at exit, and once inside
--- the result, beside the facts of the other two.
+-- `ranges::reader::new` meets its contract: a walk of its MIR, by hand. A `RangeReader` is made of the mark, the slice
+-- and the cursor passed, in the result's local. A `&[u8]` is Copy, so what it owns is had twice: once for table at
+-- exit, and once inside the result, beside the facts of the other two.
 -- Assumes nothing.
 use Rattle.ranges.proofs.Words as words
 use words.{List, [], _∷_, some, refl, length, URA, place, named, Val, vbool, Share, Lft, ftrue, flft, ent, SProp}
@@ -21,7 +21,9 @@ use Rattle.ranges.proofs.reader.new as new
 use Rattle.ranges.proofs.reader.new.Code as code
 
 abbrev stayed : Stays (new.ended .signature .params) (new.ended .kept)
-stayed = (stay-none (λ _. bool) yes, (stay-none-slice (0 ∷ []) tt (plain (λ _. u8)) yes, (stay-none (λ _. Cu.the-row) yes, tt)))
+stayed =
+    let bytes = stay-none-slice {n = 1} (0 ∷ []) tt (plain (λ _. u8)) yes in
+    (stay-none (λ _. bool) yes, (bytes, (stay-none (λ _. Cu.the-row) yes, tt)))
 
 module _ {M : Type 1} (𝓤 : URA M) (H : Heap 𝓤) (A : Atoms 𝓤) (W : Given 𝓤 H A) (mem : Memory → SProp 𝓤)
     (run : Routine → Fun 𝓤) (κ : Lft) (q : Share) (r : RangeReader) where
@@ -50,17 +52,19 @@ module _ {M : Type 1} (𝓤 : URA M) (H : Heap 𝓤) (A : Atoms 𝓤) (W : Given
       let Own = ShrSlice (named 0) κ u8 .own (r .table) (v ∷ []) in
       let α = namedLft 1 0 tt (κ, tt) in
       qed W entry ∵
-      suffices ! _ (ends-at 𝓤 H A new.ended stayed (new.clauses 𝓤 H A mem run) W bound _ r (tt, (tt, (tt, tt))) (tt, (tt, (tt, tt)))) $
+      suffices ! _ (ends-at 𝓤 H A new.ended stayed (new.clauses 𝓤 H A mem run) W bound _ r (tt, (tt, (tt, tt)))
+      (tt, (tt, (tt, tt)))) $
       says ! (refl, (refl, refl)) $ frame ! $ fsplit ! $ move ! (1 ∷ []) $ fsplit ! $
       use1 W (‵ Own ⊛ ‵ Own) (shr-slice-copy 𝓤 H A W (named 0) κ u8 .twice (r .table) (v ∷ [])) $ split ! $
       -- [what table owns; the same; what cursor owns; what present owns]
       move ! (0 ∷ 2 ∷ []) $ fjoin ! $ move ! (2 ∷ 0 ∷ []) $ fjoin ! $ frame ! $
       -- [what table owns]: what the fields own together, of it and of the other two's facts, is what the struct owns
-      nothing ! $ owned ! Cu.the-row (Is Cu.the-row) (LL.makes Cu.the-type Cu.Laws.the-plain 𝓤 H A) (r .cursor) _ pc $ fjoin ! $
-      move ! (1 ∷ 0 ∷ []) $ fjoin ! $ owned ! bool (Is bool) (bool-makes 𝓤 H A W) (r .present) _ refl $ fjoin ! $
-      by ! (own-shut 𝓤 H A W (T.the-type α) (T.Laws.the-laws α) a)
+      nothing ! $ owned ! Cu.the-row (Is Cu.the-row) (LL.makes Cu.the-type Cu.Laws.the-plain 𝓤 H A) (r .cursor) _ pc $
+      fjoin ! $ move ! (1 ∷ 0 ∷ []) $ fjoin ! $ owned ! bool (Is bool) (bool-makes 𝓤 H A W) (r .present) _ refl $
+      fjoin ! $ by ! (own-shut 𝓤 H A W (T.the-type α) (T.Laws.the-laws α) a)
 
-  walk : (C : Calls 𝓤 H) (Λ : Loops 𝓤 H) → Is (ShrSlice (named 0) κ u8) (r .table) (v ∷ []) → Is Cu.the-row (r .cursor) (u ∷ [])
+  walk : (C : Calls 𝓤 H) (Λ : Loops 𝓤 H) → Is (ShrSlice (named 0) κ u8) (r .table) (v ∷ [])
+      → Is Cu.the-row (r .cursor) (u ∷ [])
       → ent 𝓤 (⋆ 𝓤 H A entry) (WpFn 𝓤 H C Λ code.function (vbool (r .present) ∷ v ∷ u ∷ []) Post)
   walk C Λ ps pc =
       let wv = shr-slice-lawful 𝓤 H A W (named 0) κ u8 .typed (r .table) (v ∷ []) ps .0 in
@@ -82,7 +86,8 @@ new-spec 𝓤 H 𝓜 𝓖 𝓡 =
     let bytes = goes-none-slice 𝓤 H A W 1 (0 ∷ []) tt (plain (λ _. u8)) yes in
     let place = goes-none 𝓤 H A W 1 (λ _. Cu.the-row) yes (λ κs x f. refl) in
     by-hand 𝓤 H 𝓜 𝓖 𝓡 new.ended (new.clauses 𝓤 H A (𝓜 .mem) (𝓡 .run)) code.env new.Key.name code.function stayed
-    (λ κs. (bool-vals, (slice-vals, (LL.vals Cu.the-type Cu.Laws.the-laws, tt)))) (code.unfolded 𝓤 H 𝓜 𝓡) (flag, (bytes, (place, tt)))
+    (λ κs. (bool-vals, (slice-vals, (LL.vals Cu.the-type Cu.Laws.the-laws, tt)))) (code.unfolded 𝓤 H 𝓜 𝓡)
+    (flag, (bytes, (place, tt)))
     (λ κs. (bool-tells, (shr-slice-tells (named 0) (κs .0) u8, (LL.tells Cu.the-type Cu.Laws.the-laws, tt))))
     (λ κs qs os a g are.
     let r : RangeReader = record { present = a .0; table = a .1 .0; cursor = a .1 .1 .0 } in

@@ -1,6 +1,7 @@
--- `ranges::reader::next` meets its contract: a walk of its MIR, by hand. The struct is taken apart, and the cursor's `step` is called
--- on its fields. All that the proof knows of `step` is that it meets its contract. The struct is Copy: what it owns is had twice, one
--- copy is kept whole for the exit, and of the other what table owns goes to the callee, beside the token, which comes back.
+-- `ranges::reader::next` meets its contract: a walk of its MIR, by hand. The struct is taken apart, and the cursor's
+-- `step` is called on its fields. All that the proof knows of `step` is that it meets its contract. The struct is Copy:
+-- what it owns is had twice, one copy is kept whole for the exit, and of the other what table owns goes to the callee,
+-- beside the token, which comes back.
 -- Assumes nothing.
 use Rattle.ranges.proofs.Words as words
 use words.{List, [], _∷_, some, _≡_, refl, length, URA, Val, vbool, Share, Lft, ftrue, flft, ent, id⊢, SProp, Memory}
@@ -90,7 +91,8 @@ module _ {M : Type 1} (𝓤 : URA M) (H : Heap 𝓤) (A : Atoms 𝓤) (W : Given
       qed W entry ∵ move ! (1 ∷ []) $ fsplit ! $ move ! (1 ∷ []) $ drop ! $
       use1 W (Own ⊛ Own) (LL.copy D (T.Laws.the-copy (namedLft 1 0 tt (κ, tt))) 𝓤 H A W .twice r (u ∷ [])) $ split ! $
       use1 W (given (u ∷ [] ≡ u ∷ []) (‵ (all-own (D .parts) L fields))) (own-open 𝓤 H A W D L fields u) $ learn ! (λ _.
-      use1 W (‵ (ownAt (D .parts) L 1 (r .table)) ⊛ ‵ (rest (D .parts) L 1 fields)) (own-out 𝓤 H A W (D .parts) L 1 fields) $ split ! $
+      use1 W (‵ (ownAt (D .parts) L 1 (r .table)) ⊛ ‵ (rest (D .parts) L 1 fields))
+      (own-out 𝓤 H A W (D .parts) L 1 fields) $ split ! $
       -- [what table owns; what the other fields own; what the struct owns; the token]
       move ! (1 ∷ []) $ drop ! $ nothing ! $ move ! (1 ∷ 0 ∷ []) $ fjoin ! $
       owned ! bool (Is bool) (bool-makes 𝓤 H A W) (r .present) _ refl $ fjoin ! $
@@ -104,8 +106,8 @@ module _ {M : Type 1} (𝓤 : URA M) (H : Heap 𝓤) (A : Atoms 𝓤) (W : Given
   returns : (z : Step) → Answers z → ent 𝓤 (⋆ 𝓤 H A (left z)) (Post (S.Laws.lowered z))
   returns z e =
       qed W (left z) ∵
-      suffices ! _ (ends-at 𝓤 H A next.ended stayed (next.clauses 𝓤 H A mem run) W bound _ z (tt, tt) (tt, tt)) $ says ! e $
-      move ! (1 ∷ []) $ frame ! $ nothing ! $ move ! (2 ∷ 0 ∷ []) $ fjoin ! $ frame ! $ done !
+      suffices ! _ (ends-at 𝓤 H A next.ended stayed (next.clauses 𝓤 H A mem run) W bound _ z (tt, tt) (tt, tt)) $
+      says ! e $ move ! (1 ∷ []) $ frame ! $ nothing ! $ move ! (2 ∷ 0 ∷ []) $ fjoin ! $ frame ! $ done !
 
   walk : (𝓣 : Tables 𝓤 H) → Triple 𝓤 (𝓣 .C step.Symbol.name) StepAt → Is (B (κ, tt)) r (u ∷ [])
       → ent 𝓤 (⋆ 𝓤 H A entry) (WpFn 𝓤 H (𝓣 .C) (𝓣 .Λ) code.function (u ∷ []) Post)
