@@ -8,7 +8,7 @@ use mathlib.Core.List.{List, [], _∷_}
 use mathlib.Core.Option.{Option, none, some}
 use lib.ListN.{length}
 use Rattle.lent.specs.Order.{omapFault}
-use Rattle.lent.specs.Paper.{Told, value, nothing, refused, unless, firstOf, andThen}
+use Rattle.lent.specs.Paper.{Told, value, nothing, refused, unless, andThen}
 use Rattle.lent.specs.Words.{writtenOver}
 use Rattle.omap.specs.Records.{records}
 use Rattle.omap.specs.Window.{windowPieces}
@@ -21,7 +21,7 @@ use Rattle.omap.proofs.Outputs.{length-flat}
 use Rattle.omap.proofs.Stepping.{stepping-fits}
 use Rattle.ranges.specs.declared.WindowPlan.{WindowPlan}
 use Rattle.ranges.specs.declared.reader.TakenPiece.{TakenPiece}
-use Rattle.ranges.specs.Inside.{toWrite, Planned, asTaken, Yields, DrainPlanned}
+use Rattle.ranges.specs.Inside.{toWrite, Planned, asTaken, YieldsAll, DrainPlanned}
 use Rattle.ranges.proofs.Planning.{all-written, entries-out}
 
 -- ---- the plan
@@ -48,7 +48,7 @@ module _ {present : Bool} {s : List ℕ} {a b places : ℕ} {t : WindowPlan} (p 
     pub drain-started : b ≤ 4294967295 → (c : Cursor) → value c ≡ startSpec present s a b
         → DrainPlanned present s a b places (record { answer = t .answer; numbers = t .count * 2; cursor = c })
     drain-started small c e = record {
-      told = p .told;
+      answers = p .answers;
       number = omega (arith, p .number, length-flat (toWrite present s a b (places / 2)));
       enough = two-each (t .count) places (p .enough);
       gives = λ h.
@@ -64,7 +64,7 @@ module _ {present : Bool} {s : List ℕ} {a b places : ℕ} {t : WindowPlan} (p 
     drain-refused n e c =
         let none : length (toWrite present s a b (places / 2)) ≡ 0 = unwritten s a b (places / 2) n present e in
         record {
-          told = p .told;
+          answers = p .answers;
           number = omega (arith, length-flat (toWrite present s a b (places / 2)));
           enough = omega arith;
           gives = λ h. absurd (omega arith);
@@ -81,7 +81,7 @@ to-drain-out present s a b out =
 pub record TakenFrom (present : Bool) (s : List ℕ) (l : List ℕ) (t : TakenPiece) : Type 0 where
   pub on : List ℕ
   pub split : l ≡ t .start ∷ (t .end ∷ on)
-  pub yields : Yields present s (t .next) on
+  pub yields : YieldsAll present s (t .next) on
 
 module _ {present : Bool} {s : List ℕ} where
   piece-taken : (n : ℕ) (o : Told (List ℕ)) (f e : ℕ) (c : Cursor) (l : List ℕ) → run present s n c ≡ o
@@ -103,6 +103,6 @@ module _ {present : Bool} {s : List ℕ} where
   by-run zero c l h q = let z : _≡_ {A = ℕ} 0 1 = cc in absurd (omega arith)
   by-run (suc n) c l h q = by-step n l (stepSpec present s c) h q
 
-  pub taken-from : {c : Cursor} {l : List ℕ} {t : TakenPiece} → Yields present s c l → 0 < length l
+  pub taken-from : {c : Cursor} {l : List ℕ} {t : TakenPiece} → YieldsAll present s c l → 0 < length l
       → t ≡ asTaken (stepSpec present s c) → TakenFrom present s l t
   taken-from {c} {l} {t} g h e = subst (TakenFrom present s l) (sym e) (by-run (g .steps) c l h (g .gives))

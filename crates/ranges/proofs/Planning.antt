@@ -26,7 +26,7 @@ module _ {present : Bool} {s : List ℕ} {a b room : ℕ} where
       → size present s a b (toldWindowed answer) ≡ 0
       → Planned present s a b room (record { answer = answer; count = 0; span = record { first = 0; last = 0 } })
   plan-idle answer e z = record {
-    told = e;
+    answers = e;
     number = omega (arith, z, ap (size present s a b) e);
     enough = omega arith;
     fit = λ h. absurd (omega arith);
@@ -38,7 +38,7 @@ module _ {present : Bool} {s : List ℕ} {a b room : ℕ} where
   plan-pieces n c h p q =
       let e = answer-pieces present s a b room n c h in
       let m = c .number ∙ ap (size present s a b) e in
-      record { told = e; number = m; enough = h; fit = λ _. c .fit; spans = λ _. q }
+      record { answers = e; number = m; enough = h; fit = λ _. c .fit; spans = λ _. q }
 
 -- what is written is nothing, or all
 pub all-written : (w : Window) (l : List MappedPiece) → 0 < length (ifCounted w l) → ifCounted w l ≡ l

@@ -31,7 +31,7 @@ abbrev pub toWrite : Bool → List ℕ → ℕ → ℕ → ℕ → List MappedPi
 toWrite present s a b room = ifCounted (windowSpec present s a b room) (windowPieces present s a b)
 
 pub record Planned (present : Bool) (s : List ℕ) (a b room : ℕ) (r : WindowPlan) : Type 0 where
-  pub told : toldWindowed (r .answer) ≡ windowSpec present s a b room
+  pub answers : toldWindowed (r .answer) ≡ windowSpec present s a b room
   pub number : r .count ≡ length (toWrite present s a b room)
   pub enough : r .count ≤ room
   pub fit : 0 < r .count → allFit (windowPieces present s a b) ≡ true
@@ -55,12 +55,12 @@ asTaken (done c) = record { start = 0; end = 0; next = c }
 asTaken (refusedAt n c) = record { start = 0; end = 0; next = c }
 
 -- stepped to its end, the cursor yields these numbers
-pub record Yields (present : Bool) (s : List ℕ) (c : Cursor) (l : List ℕ) : Type 0 where
+pub record YieldsAll (present : Bool) (s : List ℕ) (c : Cursor) (l : List ℕ) : Type 0 where
   pub steps : ℕ
   pub gives : run present s steps c ≡ value l
 
 pub record DrainPlanned (present : Bool) (s : List ℕ) (a b places : ℕ) (r : DrainPlan) : Type 0 where
-  pub told : toldWindowed (r .answer) ≡ windowSpec present s a b (places / 2)
+  pub answers : toldWindowed (r .answer) ≡ windowSpec present s a b (places / 2)
   pub number : r .numbers ≡ length (flat (toWrite present s a b (places / 2)))
   pub enough : r .numbers ≤ places
-  pub gives : 0 < r .numbers → Yields present s (r .cursor) (flat (toWrite present s a b (places / 2)))
+  pub gives : 0 < r .numbers → YieldsAll present s (r .cursor) (flat (toWrite present s a b (places / 2)))

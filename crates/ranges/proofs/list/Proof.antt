@@ -108,7 +108,7 @@ module _ {M : Type 1} (𝓤 : URA M) (H : Heap 𝓤) (A : Atoms 𝓤) (W : Given
       qed W (shut 𝓤 d (w .out)) ∵
       suffices ! _ (ends-at 𝓤 H A list.ended (stayed P.the-row) clauses W bound _ (t .answer)
       (tt, (tt, (tt, (tt, (w .out, tt))))) (tt, (tt, (tt, (tt, (w .kept, tt)))))) $
-      says ! (p .told, writing-last w all) $ together W d ! (w .out) (w .kept) $ frame ! $ frame ! $
+      says ! (p .answers, writing-last w all) $ together W d ! (w .out) (w .kept) $ frame ! $ frame ! $
       owned ! F.the-row (Is F.the-row) ((EL.makes F.the-type F.Laws.the-plain) 𝓤 H A) (t .answer) _ is $ done !
 
   -- ---- the loop

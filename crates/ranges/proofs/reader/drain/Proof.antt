@@ -28,7 +28,7 @@ use Rattle.omap.specs.declared.cursor.Step.{Step}
 use Rattle.omap.proofs.windows.Windowed as F
 use Rattle.omap.proofs.cursor.Cursor as Cu
 use Rattle.omap.proofs.cursor.Step as S
-use Rattle.ranges.specs.Inside.{asTaken, Yields, DrainPlanned}
+use Rattle.ranges.specs.Inside.{asTaken, YieldsAll, DrainPlanned}
 use Rattle.ranges.specs.declared.reader.RangeReader.{RangeReader}
 use Rattle.ranges.specs.declared.reader.DrainPlan.{DrainPlan}
 use Rattle.ranges.proofs.Locals.{Blocks, env, held, alloc-all, free-all, holds, get, get-field, puts}
@@ -176,7 +176,7 @@ module _ {M : Type 1} (𝓤 : URA M) (H : Heap 𝓤) (A : Atoms 𝓤) (W : Given
   Post = walkOf 𝓤 H A drain.ended (stayed u32) clauses .post bound
 
   abbrev State : ℕ → Type 0
-  State n = Writing (Yields (d .on) (now (d .s))) (d .xs) (windowOut (d .on) (now (d .s)) (d .lo) (d .hi) (d .xs)) n
+  State n = Writing (YieldsAll (d .on) (now (d .s))) (d .xs) (windowOut (d .on) (now (d .s)) (d .lo) (d .hi) (d .xs)) n
 
   abbrev Plans : DrainPlan → Type 0
   Plans = DrainPlanned (d .on) (now (d .s)) (d .lo) (d .hi) (length (d .xs))
@@ -188,7 +188,7 @@ module _ {M : Type 1} (𝓤 : URA M) (H : Heap 𝓤) (A : Atoms 𝓤) (W : Given
       qed W (shut 𝓤 d (w .out)) ∵
       suffices ! _ (ends-at 𝓤 H A drain.ended (stayed u32) clauses W bound _ (t .answer)
       (tt, (tt, (tt, (tt, (w .out, tt))))) (tt, (tt, (tt, (tt, (w .kept, tt)))))) $
-      says ! (p .told, writing-last w all) $ together W d ! (w .out) (w .kept) $ frame ! $ frame ! $
+      says ! (p .answers, writing-last w all) $ together W d ! (w .out) (w .kept) $ frame ! $ frame ! $
       owned ! F.the-row (Is F.the-row) ((EL.makes F.the-type F.Laws.the-plain) 𝓤 H A) (t .answer) _ is $ done !
 
   -- ---- the loop

@@ -11,7 +11,6 @@ use words.{typesAt, plain, namedLft, sliceVal, ShrSlice, slice-vals, shr-slice-t
 use words.{owned, nothing, own-shut, Stays, walkOf, stay-none, stay-none-slice, goes-none, goes-none-slice, says}
 use words.{ends-at}
 use denote.Struct.Laws as LL
-use Rattle.omap.specs.declared.cursor.Cursor.{Cursor}
 use Rattle.ranges.specs.declared.reader.RangeReader.{RangeReader}
 use Rattle.omap.proofs.cursor.Cursor as Cu
 use Rattle.ranges.proofs.Locals.{alloc-all, free-all, get, puts}

@@ -2,7 +2,6 @@
 -- Assumes nothing.
 use mathlib.Core.Path.{sym, ap, _∙_}
 use native.Mathlib.Omega.{arith}
-use denote.Ref.{now}
 use Rattle.lent.specs.Paper.{number}
 use Rattle.omap.specs.Step.{toldStarted}
 use Rattle.ranges.proofs.Draining.{drain-started, drain-refused}
@@ -13,16 +12,12 @@ use Rattle.ranges.proofs.reader.plan_drain.Tie as tie
 returns : tie.Need-returns
 returns c =
     let k = c .before .before .before in
-    let f = k .before .before in
-    let a = f .before .before .args in
-    drain-started (f .plan .ensures) (omega arith) (c .before .before .started .given .0 .0)
+    drain-started (k .before .before .plan .ensures) (omega arith) (c .before .before .started .given .0 .0)
     (sym (ap toldStarted (c .before .before .started .given .1)) ∙ k .before .start .ensures)
 
 returns-2 : tie.Need-returns-2
 returns-2 c =
-    let f = c .before .before .before in
-    let a = f .before .before .args in
-    drain-refused (f .plan .ensures) (number (c .enum-told .given .0 .0))
+    drain-refused (c .before .before .before .plan .ensures) (number (c .enum-told .given .0 .0))
     (sym (ap toldStarted (c .enum-told .given .1)) ∙ c .before .before .start .ensures) _
 
 pub plan-drain-spec : {M : Type 1} → statement M
