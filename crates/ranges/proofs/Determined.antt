@@ -1,4 +1,5 @@
--- Each promise leaves one answer, and one output. Of `next` this is omap's `one-step`, and of `drain` omap's `one-window`.
+-- Each promise leaves one answer, and one output. Of `next` this is omap's `one-step`, and of `drain` omap's
+-- `one-window`.
 -- Assumes nothing.
 use mathlib.Core.Path.{_≡_, refl, sym, ap, _∙_}
 use Prim.Native.Nat.{ℕ, _*_, _/_}
@@ -34,7 +35,8 @@ one-list present s a b out r q after next p o =
     (one-window present s a b l r q w w (rw e (p .0), refl) (rw e (o .0), refl) .0, p .1 ∙ sym (o .1))
 
 -- what `new` and `moved` promise of a reader's fields
-pub one-reader : (r q : RangeReader) → (r .present ≡ q .present) × ((r .table ≡ q .table) × (r .cursor ≡ q .cursor)) → r ≡ q
+pub one-reader : (r q : RangeReader) → (r .present ≡ q .present) × ((r .table ≡ q .table) × (r .cursor ≡ q .cursor))
+    → r ≡ q
 one-reader r q e =
     ap (λ (x : Bool). record { present = x; table = r .table; cursor = r .cursor }) (e .0)
     ∙ ap (λ (x : RefT (List ℕ)). record { present = q .present; table = x; cursor = r .cursor }) (e .1 .0)

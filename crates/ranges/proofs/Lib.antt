@@ -1,3 +1,4 @@
+pub mod Words
 pub mod Locals
 pub mod Calling
 pub mod Hand

@@ -17,16 +17,17 @@ use Rattle.omap.specs.declared.windows.Windowed.the-variants as windowed
 use Rattle.omap.proofs.Outputs.{Counts, answer-pieces}
 use Rattle.ranges.specs.Inside.{ifCounted, Planned}
 
-module _ (present : Bool) (s : List ℕ) (a b room : ℕ) where
-  -- so many pieces are written with the answer w
-  abbrev size : Window → ℕ
-  size w = length (ifCounted w (windowPieces present s a b))
+-- so many pieces are written with the answer w
+abbrev size : Bool → List ℕ → ℕ → ℕ → Window → ℕ
+size present s a b w = length (ifCounted w (windowPieces present s a b))
 
-  pub plan-idle : (answer : Windowed) → toldWindowed answer ≡ windowSpec present s a b room → size (toldWindowed answer) ≡ 0
+module _ {present : Bool} {s : List ℕ} {a b room : ℕ} where
+  pub plan-idle : (answer : Windowed) → toldWindowed answer ≡ windowSpec present s a b room
+      → size present s a b (toldWindowed answer) ≡ 0
       → Planned present s a b room (record { answer = answer; count = 0; span = record { first = 0; last = 0 } })
   plan-idle answer e z = record {
-    told = e;
-    number = omega (arith, z, ap size e);
+    answers = e;
+    number = omega (arith, z, ap (size present s a b) e);
     enough = omega arith;
     fit = λ h. absurd (omega arith);
     spans = λ h. absurd (omega arith);
@@ -36,7 +37,8 @@ module _ (present : Bool) (s : List ℕ) (a b room : ℕ) where
       → Planned present s a b room (record { answer = windowed.Pieces n; count = n; span = p })
   plan-pieces n c h p q =
       let e = answer-pieces present s a b room n c h in
-      record { told = e; number = c .number ∙ ap size e; enough = h; fit = λ _. c .fit; spans = λ _. q }
+      let m = c .number ∙ ap (size present s a b) e in
+      record { answers = e; number = m; enough = h; fit = λ _. c .fit; spans = λ _. q }
 
 -- what is written is nothing, or all
 pub all-written : (w : Window) (l : List MappedPiece) → 0 < length (ifCounted w l) → ifCounted w l ≡ l
@@ -45,8 +47,9 @@ all-written (refusedAs n) l h = absurd (omega arith)
 all-written (refusedFor n k) l h = absurd (omega arith)
 
 -- the pieces to write, as entries, give the whole output
-pub entries-out : {A : Type 0} (entries : List MappedPiece → List A) → entries [] ≡ [] → (w : Window) (l : List MappedPiece) (out : List A)
-    → writtenOver (entries (ifCounted w l)) out ≡ outAfter w (entries l) out
+pub entries-out : {A : Type 0} (entries : List MappedPiece → List A) → entries [] ≡ []
+    → (w : Window) (l : List MappedPiece) (out : List A) → writtenOver (entries (ifCounted w l)) out ≡ outAfter w
+    (entries l) out
 entries-out entries e (counted n) l out = refl
 entries-out entries e (refusedAs n) l out = rw e
 entries-out entries e (refusedFor n k) l out = rw e

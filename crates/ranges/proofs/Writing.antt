@@ -1,4 +1,5 @@
--- A loop that writes so many entries: those left to write, written onto the output as it is, give the output as it will be.
+-- A loop that writes so many entries: those left to write, written onto the output as it is, give the output as it will
+-- be.
 -- Assumes nothing.
 use mathlib.Core.Path.{_≡_, refl, sym, ap, _∙_}
 use Prim.Native.Nat.{ℕ, _+_, _-_, _≤_, _<_}
@@ -30,14 +31,15 @@ none-left : {A : Type 0} (out : List A) (k : ℕ) (l final : List A) → length 
 none-left out k [] final e q = q
 none-left out k (x ∷ l) final e q = absurd (omega arith)
 
-module _ {A S : Type 0} (Gives : S → List A → Type 0) (out₀ final : List A) (n : ℕ) where
+module _ {A S : Type 0} {Gives : S → List A → Type 0} {out₀ final : List A} {n : ℕ} where
   abbrev pub Nearer : Writing Gives out₀ final n → Writing Gives out₀ final n → Type 0
   Nearer v w = n - v .k < n - w .k
 
   pub nearer-wf : WellFounded Nearer
   nearer-wf = InvImage·wf (λ (w : Writing Gives out₀ final n). n - w .k) (Nat·lt-wfRel .wf)
 
-  abbrev pub writing-first : (at : S) (left : List A) → (0 < length left → Gives at left) → length left ≡ n → n ≤ length out₀
+  abbrev pub writing-first : (at : S) (left : List A) → (0 < length left → Gives at left) → n ≡ length left
+      → n ≤ length out₀
       → writtenOver left out₀ ≡ final → Writing Gives out₀ final n
   writing-first at left g e h q = record {
     out = out₀;
@@ -54,10 +56,14 @@ module _ {A S : Type 0} (Gives : S → List A → Type 0) (out₀ final : List A
     pub writing-last : n ≤ w .k → w .out ≡ final
     writing-last h = none-left (w .out) (w .k) (w .left) final (omega (arith, w .number)) (w .goal)
 
-    pub writing-on : w .k < n → Gives (w .at) (w .left)
-    writing-on h = w .gives (omega (arith, w .number))
+    module _ (h : w .k < n) where
+      pub some-left : 0 < length (w .left)
+      some-left = omega (arith, w .number)
 
-    module _ (at : S) (on : List A) (g : 0 < length on → Gives at on) where
+      pub writing-on : Gives (w .at) (w .left)
+      writing-on = w .gives some-left
+
+    module _ (at : S) {on : List A} (g : 0 < length on → Gives at on) where
       -- an entry more
       abbrev pub writing-one : (x : A) → w .left ≡ x ∷ on → Writing Gives out₀ final n
       writing-one x e = record {

@@ -1,4 +1,5 @@
--- What the crate's own functions hand each other: a plan, and one piece after another. No public promise cites this file.
+-- What the crate's own functions hand each other: a plan, and one piece after another. No public promise cites this
+-- file.
 use Prim.Native.Nat.{ℕ, _/_, _≤_, _<_}
 use mathlib.Core.Path.{_≡_}
 use mathlib.Core.Bool.{Bool, true}
@@ -12,6 +13,7 @@ use Rattle.omap.specs.Output.{allFit, flat, Window, counted, refusedAs, refused
 use Rattle.omap.specs.Step.{Stepped, piece, done, refusedAt}
 use Rattle.omap.specs.Run.{run}
 use Rattle.omap.specs.declared.walk.Span.{Span}
+use Rattle.omap.specs.declared.cursor.Cursor.{Cursor}
 use Rattle.ranges.specs.declared.WindowPlan.{WindowPlan}
 use Rattle.ranges.specs.declared.PulledPiece.{PulledPiece}
 use Rattle.ranges.specs.declared.reader.DrainPlan.{DrainPlan}
@@ -29,7 +31,7 @@ abbrev pub toWrite : Bool → List ℕ → ℕ → ℕ → ℕ → List MappedPi
 toWrite present s a b room = ifCounted (windowSpec present s a b room) (windowPieces present s a b)
 
 pub record Planned (present : Bool) (s : List ℕ) (a b room : ℕ) (r : WindowPlan) : Type 0 where
-  pub told : toldWindowed (r .answer) ≡ windowSpec present s a b room
+  pub answers : toldWindowed (r .answer) ≡ windowSpec present s a b room
   pub number : r .count ≡ length (toWrite present s a b room)
   pub enough : r .count ≤ room
   pub fit : 0 < r .count → allFit (windowPieces present s a b) ≡ true
@@ -52,9 +54,13 @@ asTaken (piece f t c) = record { start = f; end = t; next = c }
 asTaken (done c) = record { start = 0; end = 0; next = c }
 asTaken (refusedAt n c) = record { start = 0; end = 0; next = c }
 
+-- stepped to its end, the cursor yields these numbers
+pub record YieldsAll (present : Bool) (s : List ℕ) (c : Cursor) (l : List ℕ) : Type 0 where
+  pub steps : ℕ
+  pub gives : run present s steps c ≡ value l
+
 pub record DrainPlanned (present : Bool) (s : List ℕ) (a b places : ℕ) (r : DrainPlan) : Type 0 where
-  pub told : toldWindowed (r .answer) ≡ windowSpec present s a b (places / 2)
+  pub answers : toldWindowed (r .answer) ≡ windowSpec present s a b (places / 2)
   pub number : r .numbers ≡ length (flat (toWrite present s a b (places / 2)))
   pub enough : r .numbers ≤ places
-  -- stepped to its end, the cursor yields them
-  pub gives : 0 < r .numbers → (n : ℕ) × (run present s n (r .cursor) ≡ value (flat (toWrite present s a b (places / 2))))
+  pub gives : 0 < r .numbers → YieldsAll present s (r .cursor) (flat (toWrite present s a b (places / 2)))

@@ -14,4 +14,5 @@ asPiece p = record { start = p .to; end = besideStart p }
 
 -- what the call leaves in a lent list: an entry is a record
 unfoldable pub listOut : Bool → List ℕ → ℕ → ℕ → List Piece → List Piece
-listOut present s a b out = outAfter (windowSpec present s a b (length out)) (map asPiece (windowPieces present s a b)) out
+listOut present s a b out =
+    outAfter (windowSpec present s a b (length out)) (map asPiece (windowPieces present s a b)) out

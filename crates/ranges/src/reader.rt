@@ -1,6 +1,7 @@
 // A reader over the pieces of a window that keeps hold of its table's bytes, as `RangeIter` of pdb does. Its functions
 // take it apart and leave the work to the cursor.
 ghost use mathlib.Core.Path.{_≡_};
+ghost use mathlib.Core.Bool.{false};
 ghost use Prim.Native.Nat.{_/_};
 ghost use lib.ListN.{length};
 ghost use Rattle.omap.specs.Output.{toldWindowed, windowSpec, windowOut};

@@ -30,29 +30,8 @@ module _ (k : tie.After-known-told2) where
       was-counted (start .args .present) s (start .args .a) (start .args .b) n
       (sym (ap toldCounted (k .before .counted2 .given .1)) ∙ k .before .before .before .count .ensures)
 
-count-requires : tie.Need-count-requires
-count-requires c κs = search needs
-
-enum-known-counted : tie.Need-enum-known-counted
-enum-known-counted c = search needs
-
-idle-requires : tie.Need-idle-requires
-idle-requires c κs = search needs
-
-enum-told : tie.Need-enum-told
-enum-told c = search needs
-
-idle-requires-2 : tie.Need-idle-requires-2
-idle-requires-2 c κs = search needs
-
-enum-known-counted-2 : tie.Need-enum-known-counted-2
-enum-known-counted-2 c = search needs
-
 span-of-requires : tie.Need-span-of-requires
 span-of-requires c κs = counts (c .before) .order
-
-idle-requires-3 : tie.Need-idle-requires-3
-idle-requires-3 c κs = search needs
 
 returns : tie.Need-returns
 returns c =
@@ -60,46 +39,38 @@ returns c =
     let a = k .before .before .before .before .args in
     let s = now (a .table) in
     let why = k .counted .given .0 .0 in
-    let e = was-refused (a .present) s (a .a) (a .b) (number why) (sym (ap toldCounted (k .counted .given .1)) ∙ k .before .before .count .ensures) in
+    let e = was-refused (a .present) s (a .a) (a .b) (number why) (sym (ap toldCounted (k .counted .given .1)) ∙ k
+    .before .before .count .ensures) in
     rw (c .idle .ensures)
-    (plan-idle (a .present) s (a .a) (a .b) (a .room) (windowed.Refused why) (answer-refused (a .present) s (a .a) (a .b) (a .room) (number why) e) refl)
+    (plan-idle (windowed.Refused why) (answer-refused (a .present) s (a .a) (a .b) (a .room) (number why) e) refl)
 
 returns-2 : tie.Need-returns-2
 returns-2 c =
     let k = c .before in
     let a = k .before .before .before .before .args in
     let s = now (a .table) in
-    let e = was-refused (a .present) s (a .a) (a .b) 4 (sym (ap toldCounted (k .enum-told .given .1)) ∙ k .before .before .count .ensures) in
+    let e = was-refused (a .present) s (a .a) (a .b) 4 (sym (ap toldCounted (k .enum-told .given .1)) ∙ k .before
+    .before .count .ensures) in
     rw (c .idle2 .ensures)
-    (plan-idle (a .present) s (a .a) (a .b) (a .room) windowed.TooLarge (answer-refused (a .present) s (a .a) (a .b) (a .room) 4 e) refl)
+    (plan-idle windowed.TooLarge (answer-refused (a .present) s (a .a) (a .b) (a .room) 4 e) refl)
 
 returns-3 : tie.Need-returns-3
 returns-3 c =
     let k = c .before .before in
     let a = start k .args in
-    plan-pieces (a .present) (s k) (a .a) (a .b) (a .room) (n k) (counts k) (omega arith) (c .span-of .result) (c .span-of .ensures)
+    plan-pieces (n k) (counts k) (omega arith) (c .span-of .result) (c .span-of .ensures)
 
 returns-4 : tie.Need-returns-4
 returns-4 c =
     let k = c .before .before in
     let a = start k .args in
     rw (c .idle3 .ensures)
-    (plan-idle (a .present) (s k) (a .a) (a .b) (a .room) (windowed.Short (n k))
+    (plan-idle (windowed.Short (n k))
     (answer-short (a .present) (s k) (a .a) (a .b) (a .room) (n k) (counts k) (omega arith)) refl)
 
 pub plan-spec : {M : Type 1} → statement M
 plan-spec =
     tie.close
-    (tie.spec
-    count-requires
-    enum-known-counted
-    idle-requires
-    enum-told
-    idle-requires-2
-    enum-known-counted-2
-    span-of-requires
-    idle-requires-3
-    returns
-    returns-2
-    returns-3
+    (tie.spec (λ c κs. search needs) (λ c. search needs) (λ c κs. search needs) (λ c. search needs)
+    (λ c κs. search needs) (λ c. search needs) span-of-requires (λ c κs. search needs) returns returns-2 returns-3
     returns-4)

@@ -31,17 +31,11 @@ module _ (k : tie.After-known-told) where
 
   found : Found (st .args .present) s (st .args .a) (st .args .b) (st .args .span .first) p n
   found =
-      was-found (st .args .present) s (st .args .a) (st .args .b) (st .args .span .first) (k .before .before .before .next-piece .ensures) p n
-      (k .before .next .given .1)
+      was-found (st .args .present) s (st .args .a) (st .args .b) (st .args .span .first)
+      (k .before .before .before .next-piece .ensures) p n (k .before .next .given .1)
 
   small : (p .to ≤ 4294967295) × (besideStart p ≤ 4294967295)
-  small = pulled-fits (st .args .present) s (st .args .a) (st .args .b) (st .args .span) (st .pre) p n found
-
-next-piece-requires : tie.Need-next-piece-requires
-next-piece-requires c κs = search needs
-
-enum-known-next : tie.Need-enum-known-next
-enum-known-next c = search needs
+  small = pulled-fits (st .pre) found
 
 cast-t11 : tie.Need-cast-t11
 cast-t11 c = omega (arith, small (c .before) .0)
@@ -52,31 +46,22 @@ beside-start-requires c κs = found (c .before) .small
 cast-t13 : tie.Need-cast-t13
 cast-t13 c = omega (arith, c .beside-start .ensures, small (c .before .before) .1)
 
-enum-told : tie.Need-enum-told
-enum-told c = search needs
-
 returns : tie.Need-returns
 returns c =
     let k = c .before .before in
-    let a = st k .args in
-    rw (c .beside-start .ensures) (pulled (a .present) (s k) (a .a) (a .b) (a .span) (st k .pre) (p k) (n k) (found k))
+    rw (c .beside-start .ensures) (pulled (st k .pre) (found k))
 
 -- a piece is left
 returns-2 : tie.Need-returns-2
 returns-2 c =
     let t = c .before .before .before .before in
-    let e = was-end (t .args .present) (now (t .args .table)) (t .args .a) (t .args .b) (t .args .span .first) (c .before .before .next-piece .ensures) (c .enum-told .given .1) in
-    absurd (omega (arith, ap length e, t .pre .some-left))
+    let a = t .args in
+    let e = c .before .before .next-piece .ensures in
+    let none = was-end (a .present) (now (a .table)) (a .a) (a .b) (a .span .first) e (c .enum-told .given .1) in
+    absurd (omega (arith, ap length none, t .pre .some-left))
 
 pub pull-spec : {M : Type 1} → statement M
 pull-spec =
     tie.close
-    (tie.spec
-    next-piece-requires
-    enum-known-next
-    cast-t11
-    beside-start-requires
-    cast-t13
-    enum-told
-    returns
-    returns-2)
+    (tie.spec (λ c κs. search needs) (λ c. search needs) cast-t11 beside-start-requires cast-t13 (λ c. search needs)
+    returns returns-2)

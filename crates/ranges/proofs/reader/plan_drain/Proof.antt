@@ -2,7 +2,6 @@
 -- Assumes nothing.
 use mathlib.Core.Path.{sym, ap, _∙_}
 use native.Mathlib.Omega.{arith}
-use denote.Ref.{now}
 use Rattle.lent.specs.Paper.{number}
 use Rattle.omap.specs.Step.{toldStarted}
 use Rattle.ranges.proofs.Draining.{drain-started, drain-refused}
@@ -10,35 +9,19 @@ use borrow.Author.Needs.{needs}
 use Rattle.ranges.proofs.reader.plan_drain.Statement.{statement}
 use Rattle.ranges.proofs.reader.plan_drain.Tie as tie
 
-plan-requires : tie.Need-plan-requires
-plan-requires c κs = search needs
-
-start-requires : tie.Need-start-requires
-start-requires c κs = search needs
-
-enum-known-started : tie.Need-enum-known-started
-enum-known-started c = search needs
-
-mul-t12 : tie.Need-mul-t12
-mul-t12 c = search needs
-
-enum-told : tie.Need-enum-told
-enum-told c = search needs
-
 returns : tie.Need-returns
 returns c =
     let k = c .before .before .before in
-    let f = k .before .before in
-    let a = f .before .before .args in
-    drain-started (a .present) (now (a .table)) (a .a) (a .b) (a .places) (f .plan .result) (f .plan .ensures) (omega arith) (c .before .before .started .given .0 .0)
+    drain-started (k .before .before .plan .ensures) (omega arith) (c .before .before .started .given .0 .0)
     (sym (ap toldStarted (c .before .before .started .given .1)) ∙ k .before .start .ensures)
 
 returns-2 : tie.Need-returns-2
 returns-2 c =
-    let f = c .before .before .before in
-    let a = f .before .before .args in
-    drain-refused (a .present) (now (a .table)) (a .a) (a .b) (a .places) (f .plan .result) (f .plan .ensures) (number (c .enum-told .given .0 .0))
+    drain-refused (c .before .before .before .plan .ensures) (number (c .enum-told .given .0 .0))
     (sym (ap toldStarted (c .enum-told .given .1)) ∙ c .before .before .start .ensures) _
 
 pub plan-drain-spec : {M : Type 1} → statement M
-plan-drain-spec = tie.close (tie.spec plan-requires start-requires enum-known-started mul-t12 enum-told returns returns-2)
+plan-drain-spec =
+    tie.close
+    (tie.spec (λ c κs. search needs) (λ c κs. search needs) (λ c. search needs) (λ c. search needs)
+    (λ c. search needs) returns returns-2)

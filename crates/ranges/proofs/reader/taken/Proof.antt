@@ -12,21 +12,6 @@ use Rattle.ranges.proofs.reader.taken.Tie as tie
 known : (s q : Step) → s ≡ q → asTaken (toldStep q) ≡ asTaken (toldStep s)
 known s q e = ap (λ (x : Step). asTaken (toldStep x)) (sym e)
 
-enum-known-s : tie.Need-enum-known-s
-enum-known-s c = search needs
-
-enum-known-s-2 : tie.Need-enum-known-s-2
-enum-known-s-2 c = search needs
-
-enum-known-s-3 : tie.Need-enum-known-s-3
-enum-known-s-3 c = search needs
-
-enum-known-s-4 : tie.Need-enum-known-s-4
-enum-known-s-4 c = search needs
-
-enum-known-s-5 : tie.Need-enum-known-s-5
-enum-known-s-5 c = search needs
-
 returns : tie.Need-returns
 returns c = known _ _ (c .before .s .given .1)
 
@@ -45,14 +30,5 @@ returns-5 c = known _ _ (c .before .s5 .given .1)
 pub taken-spec : {M : Type 1} → statement M
 taken-spec =
     tie.close
-    (tie.spec
-    enum-known-s
-    enum-known-s-2
-    enum-known-s-3
-    enum-known-s-4
-    enum-known-s-5
-    returns
-    returns-2
-    returns-3
-    returns-4
-    returns-5)
+    (tie.spec (λ c. search needs) (λ c. search needs) (λ c. search needs) (λ c. search needs) (λ c. search needs)
+    returns returns-2 returns-3 returns-4 returns-5)
