@@ -42,8 +42,8 @@ enum gillacorn_refusal {
     GILLACORN_TOO_LARGE = 4, /* an asked sum or product exceeds 4,294,967,295 */
     GILLACORN_SHORT = 5,     /* the result has more entries than the lent output holds; the needed
                                 number is told */
-    GILLACORN_EARLY = 6      /* a cursor would translate a mapped piece that begins before its
-                                record's source */
+    GILLACORN_EARLY = 6      /* a cursor would translate a mapped, non-empty piece that begins
+                                before its record's source */
 };
 
 /* A code as a person reads it; never NULL. */

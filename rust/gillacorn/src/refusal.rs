@@ -27,7 +27,7 @@ pub enum Refusal {
         /// How many entries the result has.
         needed: usize,
     },
-    /// 6: a cursor would translate a piece that begins before its record's source.
+    /// 6: a cursor would translate a mapped, non-empty piece that begins before its record's source.
     Early,
     /// A number that this crate has no name for: the archive is newer than the crate.
     Other {

@@ -62,12 +62,10 @@ cast-result : tie.Need-cast-result
 cast-result c = omega arith
 
 returns : tie.Need-returns
-returns c = omega (
-  arith,
-  four-bytes
-      (now (c .before .before .before .before .before .before .before .before .before .args .s))
-      (c .before .before .before .before .before .before .before .before .before .args .at),
-)
+returns c =
+    let third = c .before .before .before .before in
+    let a = third .before .before .before .before .before .args in
+    omega (arith, four-bytes (now (a .s)) (a .at))
 
 pub u32-at-spec : {M : Type 1} → statement M
 u32-at-spec =

@@ -28,9 +28,9 @@ expect-requires-3 c κs =
 
 expect-requires-4 : tie.Need-expect-requires-4
 expect-requires-4 c κs =
+    let k = c .before .before .before .before .before .before .before in
     eq-eqb _ _ (ap (λ (x : SourcesAnswer). x .second)
-    (c .before .before .before .before .before .before .before .gillacorn-way-back .ensures
-    ∙ c .before .before .before .before .before .before .before .before .before .pre))
+    (k .gillacorn-way-back .ensures ∙ k .before .before .pre))
 
 returns : tie.Need-returns
 returns c = search needs

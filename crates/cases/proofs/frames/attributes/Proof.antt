@@ -24,10 +24,13 @@ attributes-spec =
     (c .before .before .before .before .gillacorn-old-frame .ensures)))
     (λ c κs. eq-eqb _ _ (ap (λ (x : FrameAnswer). x .frame .«prolog_size»)
     (c .before .before .before .before .before .before .gillacorn-old-frame .ensures)))
-    (λ c κs. eq-eqb _ _ (ap (λ (x : FrameAnswer). x .frame .«saved_regs_size»)
-    (c .before .before .before .before .before .before .before .before .gillacorn-old-frame .ensures)))
-    (λ c κs. ap (λ (x : FrameAnswer). x .frame .«has_structured_eh»)
-    (c .before .before .before .before .before .before .before .before .before .gillacorn-old-frame .ensures))
-    (λ c κs. ap (λ (x : FrameAnswer). not (x .frame .«uses_base_pointer»))
-    (c .before .before .before .before .before .before .before .before .before .before .before .gillacorn-old-frame .ensures))
+    (λ c κs. let e = c .before .before .before .before in
+    eq-eqb _ _ (ap (λ (x : FrameAnswer). x .frame .«saved_regs_size»)
+    (e .before .before .before .before .gillacorn-old-frame .ensures)))
+    (λ c κs. let e = c .before .before .before .before in
+    ap (λ (x : FrameAnswer). x .frame .«has_structured_eh»)
+    (e .before .before .before .before .before .gillacorn-old-frame .ensures))
+    (λ c κs. let e = c .before .before .before .before .before in
+    ap (λ (x : FrameAnswer). not (x .frame .«uses_base_pointer»))
+    (e .before .before .before .before .before .before .gillacorn-old-frame .ensures))
     (λ c. tt))

@@ -23,9 +23,9 @@ expect-requires-2 c κs =
 
 expect-requires-3 : tie.Need-expect-requires-3
 expect-requires-3 c κs =
+    let k = c .before .before .before .before .before .before in
     eq-eqb _ _ (ap (λ (x : FrameCursorAnswer). x .cursor .«new_index»)
-    (c .before .before .before .before .before .before .gillacorn-frames-at .ensures
-    ∙ c .before .before .before .before .before .before .before .before .before .pre))
+    (k .gillacorn-frames-at .ensures ∙ k .before .before .before .pre))
 
 returns : tie.Need-returns
 returns c = search needs

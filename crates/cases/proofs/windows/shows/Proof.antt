@@ -25,8 +25,9 @@ expect-requires-2 c κs =
     ∙ c .before .before .before .before .before .before .before .pre .0))
 
 same-requires : tie.Need-same-requires
-same-requires c κs = c .before .before .before .before .before .before .gillacorn-window .ensures .1
-    ∙ c .before .before .before .before .before .before .before .before .before .pre .1
+same-requires c κs =
+    let k = c .before .before .before .before .before .before in
+    k .gillacorn-window .ensures .1 ∙ k .before .before .before .pre .1
 
 returns : tie.Need-returns
 returns c = search needs
