@@ -1,6 +1,5 @@
 -- All of document 01's starred cases, as one statement over a list of them: those of crate omap on translation and
--- window, and
--- those on the clash check and the way back, in the table T.
+-- window, and those on the clash check and the way back, in the table T.
 -- Assumes nothing.
 use mathlib.Core.Path.{_≡_, refl}
 use Prim.Native.Nat.{ℕ}

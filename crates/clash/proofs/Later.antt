@@ -1,6 +1,5 @@
 -- The records that begin below a window's end, past the one whose piece is searched: their pieces, and what each adds
--- to
--- the search for the first shared target.
+-- to the search for the first shared target.
 -- Assumes nothing.
 use mathlib.Core.Path.{_≡_, refl, sym, ap, _∙_}
 use mathlib.Core.Logic.{⊎-elim}

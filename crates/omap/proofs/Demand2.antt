@@ -1,7 +1,6 @@
 -- Demand 2, over what a caller sees: where the whole-window call on a table is not refused and tells n pieces, the
--- first n entries of
--- its output, written out in order, are the values that the single lookup gives for the addresses of the window, holes
--- left out.
+-- first n entries of its output, written out in order, are the values that the single lookup gives for the addresses of
+-- the window, holes left out.
 -- Assumes nothing.
 use mathlib.Core.Path.{_≡_, refl, sym, ap, _∙_}
 use Prim.Native.Nat.{ℕ, zero, suc, _+_, _-_, _/_, _≤_, _<_}

@@ -1,6 +1,5 @@
 -- Each promise leaves one answer, and one output: any two results that it allows are equal. An answer can be read back
--- from the
--- paper's own terms.
+-- from the paper's own terms.
 -- Assumes nothing.
 use mathlib.Core.Path.{_≡_, refl, sym, _∙_}
 use Prim.Native.Nat.{ℕ, _/_}

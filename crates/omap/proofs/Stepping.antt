@@ -159,8 +159,7 @@ yields false s a b c e w n =
     (record { small = w; begun = λ q. omega arith; ahead = λ q. refl })
 
 -- A started cursor, stepped to its end, yields the pieces of the whole-window call as pairs, in order, and then it is
--- done; or it is
--- refused 4 where that call is. One step more than there are pieces is enough.
+-- done; or it is refused 4 where that call is. One step more than there are pieces is enough.
 pub stepping : (present : Bool) (s : List ℕ) (a b : ℕ) (c : Cursor) → startSpec present s a b ≡ value c → b ≤ 4294967295
     → (n : ℕ) → length (windowPieces present s a b) < n → run present s n c ≡ entries (windowPieces present s a b)
 stepping present s a b c e w n h = yields present s a b c e w n ∙ steps-all n (windowPieces present s a b) h

@@ -32,8 +32,8 @@ unfoldable pub pieces : ℕ → ℕ → List Entry → List Piece
 pieces a b [] = []
 pieces a b (x ∷ l) = put (pieceOf a b x (nextOf l)) (pieces a b l)
 
--- what stands in for a table marked absent, as `RangeIter::identity` has it: one record that takes a to itself,
--- so that a..b is one piece, and none where a is 0
+-- what stands in for a table marked absent, as `RangeIter::identity` has it: one record that takes a to itself, so that
+-- a..b is one piece, and none where a is 0
 abbrev pub itself : ℕ → Entry
 itself a = record { source = a; target = a }
 
