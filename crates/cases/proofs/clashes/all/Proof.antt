@@ -1,4 +1,4 @@
--- Each answer is what the definition by pieces computes to, which is the one by addresses (`clash-given`, `back-given`).
+-- Each answer is what the definition by pieces computes to: the one by addresses (`clash-given`, `back-given`).
 -- Assumes nothing.
 use mathlib.Core.Path.{refl, sym, ap}
 use native.Mathlib.Omega.{arith}
