@@ -303,11 +303,11 @@ if command -v script >/dev/null; then
     perl -e 'printf "%x\n", 0x100 + $_ for 0 .. 2999' >samples
     {
         declare -f run
-        declare -p rust CARGO_BUILD_TARGET
+        declare -p built
         declare -p GILLACORN_EMULATOR 2>/dev/null || true
         echo 'run gillacorn draw wide 100 1000 - <samples >drawn'
     } >long.sh
-    script -qec "bash long.sh" /dev/null </dev/null >terminal
+    script -qec "bash long.sh" /dev/null </dev/null >terminal || fail "on a terminal: $(cat terminal)"
     grep -aq 'addresses: [0-9]* of 3000' terminal || fail "nothing is counted on a terminal"
     [ "$(wc -l <drawn)" -eq 3000 ] || fail "on a terminal the answer is another"
     asked=$((asked + 1))
