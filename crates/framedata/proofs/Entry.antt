@@ -14,7 +14,9 @@ use lib.ListN.{length}
 use Rattle.lent.specs.Paper.{value, unless}
 use Rattle.lent.specs.Order.{rising, keys, keyAt, FirstAbove}
 use Rattle.lent.proofs.Logic.{which, lt-or-le}
-use Rattle.lent.proofs.Rising.{each, in-place}
+use Rattle.lent.specs.Search.{binarySearch}
+use Rattle.lent.proofs.Rising.{each}
+use Rattle.lent.proofs.Search.{first-above}
 use Rattle.framedata.specs.Records.{Span, spanAt, spans}
 use Rattle.framedata.specs.Tables.{faultOfBoth}
 use Rattle.framedata.specs.Start.{covers, placeSpec, Entered, startSpec}
@@ -53,17 +55,6 @@ module _ (w : ℕ) (s : List ℕ) (a : ℕ) where
       (lt-or-le k m)
 
   module _ (r : rising (keys w s) ≡ true) where
-    -- the first record above a, sought from place k on
-    climb : (d k : ℕ) → k + d ≡ n → ((j : ℕ) → j < k → f j ≤ a) → (i : ℕ) × FirstAbove w s a i
-    climb zero k e b = (k, record { within = omega arith; below = b; above = λ j h l. absurd (omega arith) })
-    climb (suc d) k e b =
-        ⊎-elim
-        (λ (l : a < f k).
-        (k, record { within = omega arith; below = b; above = λ j h m. omega (arith, in-place f n r k j h m) }))
-        (λ (l : f k ≤ a).
-        climb d (suc k) (omega arith) (λ j h. omega (arith, in-place f n r j k (omega arith) (omega arith))))
-        (lt-or-le a (f k))
-
     from-first : FirstAbove w s a 0 → Entered w s a 0
     from-first u =
         record {
@@ -119,13 +110,13 @@ module _ (w : ℕ) (s : List ℕ) (a : ℕ) where
 
     pub entered : Entered w s a (placeSpec a (spans w s))
     entered =
-        let c = climb n 0 (omega arith) (λ j h. absurd (omega arith)) in
+        let u = first-above w s a r in
         ⊎-elim
-        (λ (e : c .0 ≡ 0).
-        let u : FirstAbove w s a 0 = subst (FirstAbove w s a) e (c .1) in
-        subst (Entered w s a) (sym (enter-first w s a u)) (from-first u))
-        (λ (h : 0 < c .0). by-cases (c .0) h (c .1))
-        (eq-zero-or-pos (c .0))
+        (λ (e : binarySearch w s a .place ≡ 0).
+        let z : FirstAbove w s a 0 = subst (FirstAbove w s a) e u in
+        subst (Entered w s a) (sym (enter-first w s a z)) (from-first z))
+        (λ (h : 0 < binarySearch w s a .place). by-cases (binarySearch w s a .place) h u)
+        (eq-zero-or-pos (binarySearch w s a .place))
 
 -- a value is told where nothing is refused
 told-value : (fault : Option ℕ) (x y : FrameCursor) → unless fault (value x) ≡ value y → (fault ≡ none) × (x ≡ y)

@@ -24,7 +24,8 @@ fn place_at(table: &[u8], width: usize, address: u32) -> usize
     requires { ⌜ (8 ≤ width) × (rising (keys width (now table)) ≡ true) ⌝ }
     ensures { λ r. ⌜ r ≡ placeSpec address (spans width (now (table .entry))) ⌝ }
 {
-    let after = lent::first_above(table, width, address);
+    let found = lent::binary_search(table, width, address);
+    let after = found.place;
     if after == 0 {
         return 0;
     }

@@ -1,11 +1,13 @@
 // OMAP tables: records and single translations.
 ghost use mathlib.Core.Path.{_≡_};
 ghost use Rattle.omap.specs.Lookup.{toldRecorded, recordSpec, lookupSpec};
+ghost use Rattle.omap.specs.Quick.{toldQuick, quickSpec};
 ghost use Rattle.gillacorn.specs.Code.{valueAnswer};
-ghost use Rattle.gillacorn.specs.Lookups.{recordAnswer};
+ghost use Rattle.gillacorn.specs.Lookups.{recordAnswer, quickAnswer};
 use crate::code::ValueAnswer;
 use crate::code::value_answer;
 use lent::refusal_number;
+use omap::Quick;
 use omap::Recorded;
 
 #[repr(C)]
@@ -13,6 +15,14 @@ pub struct RecordAnswer {
     pub code: u32,
     pub source: u32,
     pub target: u32,
+}
+
+// A translation beside its code, and the number of records probed for it.
+#[repr(C)]
+pub struct QuickAnswer {
+    pub code: u32,
+    pub value: u32,
+    pub probes: u32,
 }
 
 fn record_answer(recorded: Recorded) -> RecordAnswer
@@ -49,4 +59,38 @@ pub extern "C" fn gillacorn_lookup(present: bool, table: &[u8], address: u32) ->
     ensures { λ r. ⌜ r ≡ valueAnswer (lookupSpec present (now (table .entry)) address) ⌝ }
 {
     value_answer(omap::lookup(present, table, address))
+}
+
+fn quick_answer(quick: Quick) -> QuickAnswer
+    ensures { λ r. ⌜ r ≡ quickAnswer (toldQuick quick) ⌝ }
+{
+    match quick {
+        Quick::At(value, probes) => QuickAnswer {
+            code: 0,
+            value,
+            probes,
+        },
+        Quick::Nothing(probes) => QuickAnswer {
+            code: 255,
+            value: 0,
+            probes,
+        },
+        Quick::Refused(why) => QuickAnswer {
+            code: refusal_number(why),
+            value: 0,
+            probes: 0,
+        },
+        Quick::TooLarge => QuickAnswer {
+            code: lent::TOO_LARGE,
+            value: 0,
+            probes: 0,
+        },
+    }
+}
+
+#[no_mangle]
+pub extern "C" fn gillacorn_quick_lookup(present: bool, table: &[u8], address: u32) -> QuickAnswer
+    ensures { λ r. ⌜ r ≡ quickAnswer (quickSpec present (now (table .entry)) address) ⌝ }
+{
+    quick_answer(omap::quick_lookup(present, table, address))
 }

@@ -2,6 +2,7 @@ pub mod Field
 pub mod Place
 pub mod Rising
 pub mod Search
+pub mod Halving
 pub mod Last
 pub mod Logic
 pub mod Answers

@@ -1,80 +1,143 @@
--- The search by halving: every key before `lo` is at most the address, and every one from `hi` on is above it.
+-- The search by halving.
+--   `used-up`       the run that it ends in is empty
+--   `few-probes`    n records take at most k probes where n is below 2 to the k
+--   `key-before`    on any table, the record just before the final place has a key of at most the address
+--   `first-above`   on a table in order, the records before the final place, and no others, have such a key
 -- Assumes nothing.
-use mathlib.Core.Path.{_≡_, refl}
-use Prim.Native.Nat.{ℕ, _+_, _-_, _/_, _≤_, _<_}
+use mathlib.Core.Path.{_≡_, refl, subst}
+use mathlib.Core.Logic.{⊎-elim}
+use Prim.Native.Nat.{ℕ, zero, suc, _+_, _-_, _/_, _^_, _≤_, _<_}
+use native.Mathlib.Nat.{eq-zero-or-pos, pow-suc, pow-zero}
 use native.Mathlib.Omega.{arith}
-use mathlib.Core.Bool.{Bool, true, false, cond}
+use mathlib.Core.Bool.{true}
 use mathlib.Core.List.{List}
 use lib.ListN.{length}
-use lib.Dec.{leb}
-use borrow.Author.Tests.{leb-true, leb-false}
+use borrow.Author.Tests.{le-leb, lt-leb, eq-eqb, ne-eqb}
 use Rattle.lent.specs.Order.{rising, keyAt, keys, FirstAbove}
+use Rattle.lent.specs.Search.{Run, middle, after, before, probed, halved, whole, ended, binarySearch}
+use Rattle.lent.specs.declared.Searched.{Searched}
+use Rattle.lent.proofs.Logic.{lt-or-le}
 use Rattle.lent.proofs.Rising.{in-place}
 
-pub record Halving (w : ℕ) (s : List ℕ) (a lo hi : ℕ) : Type 0 where
-  pub up : lo ≤ hi
-  pub within : hi ≤ length s / w
-  pub below : (j : ℕ) → j < lo → keyAt w s j ≤ a
-  pub above : (j : ℕ) → hi ≤ j → j < length s / w → a < keyAt w s j
-
--- the record in the middle of the run
-abbrev pub middle : ℕ → ℕ → ℕ
-middle lo hi = lo + (hi - lo) / 2
-
 module _ (w : ℕ) (s : List ℕ) (a : ℕ) where
-  pub halving-first : Halving w s a 0 (length s / w)
-  halving-first = record {
-    up = omega arith;
-    within = omega arith;
-    below = λ j h. absurd
-        (omega arith);
-    above = λ j h l. absurd (omega arith);
-  }
+  -- a probe, by what it found
+  by-probe : (P : Run → Type 0) (r : Run) → (keyAt w s (middle r) ≤ a → P (after r))
+      → (a < keyAt w s (middle r) → P (before r)) → P (probed w s a r)
+  unfolding probed
+  by-probe P r up down =
+      ⊎-elim
+      (λ (h : a < keyAt w s (middle r)). rw (lt-leb (keyAt w s (middle r)) a h) (down h))
+      (λ (h : keyAt w s (middle r) ≤ a). rw (le-leb (keyAt w s (middle r)) a h) (up h))
+      (lt-or-le a (keyAt w s (middle r)))
 
-  module _ (lo hi : ℕ) (v : Halving w s a lo hi) where
-    pub halving-last : hi ≤ lo → FirstAbove w s a lo
-    halving-last h =
-        let u : lo ≤ hi = v .up in
-        let n : hi ≤ length s / w = v .within in
-        record { within = omega arith; below = v .below; above = λ j m l. v .above j (omega arith) l }
+  -- what each probe keeps, the search keeps
+  along : (P : Run → Type 0) → ((r : Run) → 0 < r .size → P r → P (probed w s a r)) → (m : ℕ) (r : Run) → P r
+      → P (halved w s a m r)
+  unfolding halved
+  along P step zero r p = p
+  along P step (suc m) r p =
+      ⊎-elim
+      (λ (e : r .size ≡ 0). rw (eq-eqb (r .size) 0 e) p)
+      (λ (h : 0 < r .size).
+      rw (ne-eqb (r .size) 0 (λ e. omega arith)) (along P step m (probed w s a r) (step r h p)))
+      (eq-zero-or-pos (r .size))
 
-    module _ (r : rising (keys w s) ≡ true) (h : lo < hi) where
-      here : (t : Bool) → leb (keyAt w s (middle lo hi)) a ≡ t
-          → Halving w s a (cond t (middle lo hi + 1) lo)
-          (cond t hi (middle lo hi)) × (cond t hi (middle lo hi) - cond t (middle lo hi + 1) lo < hi - lo)
-      here true e =
-          let n : hi ≤ length s / w = v .within in
-          let at : keyAt w s (middle lo hi) ≤ a = leb-true (keyAt w s (middle lo hi)) a e in (
-            record {
-              up = omega arith;
-              within = n;
-              below = λ j l. omega (
-                arith,
-                in-place (keyAt w s) (length s / w) r j (middle lo hi) (omega arith)
-                    (omega arith),
-              );
-              above = v .above;
-            },
-            omega arith,
-          )
-      here false e =
-          let n : hi ≤ length s / w = v .within in
-          let at : a < keyAt w s (middle lo hi) = leb-false (keyAt w s (middle lo hi)) a e in (
-            record {
-              up = omega arith;
-              within = omega arith;
-              below = v .below;
-              above = λ j l m. omega (
-                arith,
-                in-place (keyAt w s) (length s / w) r (middle lo hi) j (omega arith)
-                    (omega arith),
-              );
-            },
-            omega arith,
-          )
+  empties : (m : ℕ) (r : Run) → r .size ≤ m → halved w s a m r .size ≡ 0
+  unfolding halved
+  empties zero r h = omega arith
+  empties (suc m) r h =
+      ⊎-elim
+      (λ (e : r .size ≡ 0). rw (eq-eqb (r .size) 0 e) e)
+      (λ (p : 0 < r .size).
+      rw (ne-eqb (r .size) 0 (λ e. omega arith))
+      (empties m (probed w s a r) (by-probe (λ (q : Run). q .size ≤ m) r (λ u. omega arith) (λ d. omega arith))))
+      (eq-zero-or-pos (r .size))
 
-      -- the run after the record in the middle, or the one before it; either is shorter
-      pub halving-next : (t : Bool) → t ≡ leb (keyAt w s (middle lo hi)) a → (lo′ hi′ : ℕ) → lo′ ≡ cond t
-          (middle lo hi + 1) lo → hi′ ≡ cond t hi (middle lo hi)
-          → Halving w s a lo′ hi′ × (hi′ - lo′ < hi - lo)
-      halving-next t e lo′ hi′ p q = rw (p, q, e) (here (leb (keyAt w s (middle lo hi)) a) refl)
+  pub used-up : ended w s a .size ≡ 0
+  used-up = empties (length s / w) (whole w s) (omega arith)
+
+  -- a probe leaves less than half of what was below twice as many
+  counts : (k m : ℕ) (r : Run) → r .size < 2 ^ k → halved w s a m r .probes ≤ r .probes + k
+  unfolding halved
+  counts k zero r h = omega arith
+  counts zero (suc m) r h = rw (eq-eqb (r .size) 0 (omega (arith, pow-zero 2))) (omega arith)
+  counts (suc k) (suc m) r h =
+      ⊎-elim
+      (λ (e : r .size ≡ 0). rw (eq-eqb (r .size) 0 e) (omega arith))
+      (λ (p : 0 < r .size).
+      let half : (probed w s a r .size < 2 ^ k) × (probed w s a r .probes ≡ r .probes + 1)
+      = by-probe (λ (q : Run). (q .size < 2 ^ k) × (q .probes ≡ r .probes + 1)) r
+      (λ u. (omega (arith, pow-suc 2 k), refl))
+      (λ d. (omega (arith, pow-suc 2 k), refl)) in
+      rw (ne-eqb (r .size) 0 (λ e. omega arith)) (omega (arith, counts k m (probed w s a r) (half .0))))
+      (eq-zero-or-pos (r .size))
+
+  pub few-probes : (k : ℕ) → length s / w < 2 ^ k → binarySearch w s a .probes ≤ k
+  unfolding binarySearch
+  few-probes k h = omega (arith, counts k (length s / w) (whole w s) h)
+
+  -- a run inside the table, behind a record whose key is at most a
+  record Behind (r : Run) : Type 0 where
+    pub within : r .place + r .size ≤ length s / w
+    pub last : 0 < r .place → keyAt w s (r .place - 1) ≤ a
+
+  behind : (r : Run) → 0 < r .size → Behind r → Behind (probed w s a r)
+  behind r h b =
+      let n : r .place + r .size ≤ length s / w = b .within in
+      by-probe Behind r
+      (λ (u : keyAt w s (middle r) ≤ a).
+      record { within = omega arith; last = λ p. subst (λ (j : ℕ). keyAt w s j ≤ a) (omega arith) u })
+      (λ d. record { within = omega arith; last = b .last })
+
+  ends-behind : Behind (ended w s a)
+  ends-behind =
+      along Behind behind (length s / w) (whole w s) (record { within = omega arith; last = λ p. absurd (omega arith) })
+
+  pub place-within : binarySearch w s a .place ≤ length s / w
+  unfolding binarySearch
+  place-within = omega (arith, ends-behind .within)
+
+  pub key-before : 0 < binarySearch w s a .place → keyAt w s (binarySearch w s a .place - 1) ≤ a
+  unfolding binarySearch
+  key-before = ends-behind .last
+
+  -- all records before a run have a key of at most a, and all after it a greater one
+  record Between (r : Run) : Type 0 where
+    pub within : r .place + r .size ≤ length s / w
+    pub below : (j : ℕ) → j < r .place → keyAt w s j ≤ a
+    pub above : (j : ℕ) → r .place + r .size ≤ j → j < length s / w → a < keyAt w s j
+
+  module _ (o : rising (keys w s) ≡ true) where
+    ordered : (i j : ℕ) → i ≤ j → j < length s / w → keyAt w s i ≤ keyAt w s j
+    ordered = in-place (keyAt w s) (length s / w) o
+
+    between : (r : Run) → 0 < r .size → Between r → Between (probed w s a r)
+    between r h b =
+        let n : r .place + r .size ≤ length s / w = b .within in
+        by-probe Between r
+        (λ (u : keyAt w s (middle r) ≤ a).
+        record {
+          within = omega arith;
+          below = λ j l. omega (arith, ordered j (middle r) (omega arith) (omega arith));
+          above = λ j l m. b .above j (omega arith) m;
+        })
+        (λ (d : a < keyAt w s (middle r)).
+        record {
+          within = omega arith;
+          below = b .below;
+          above = λ j l m. omega (arith, ordered (middle r) j (omega arith) m);
+        })
+
+    pub first-above : FirstAbove w s a (binarySearch w s a .place)
+    unfolding binarySearch
+    first-above =
+        let e = along Between between (length s / w) (whole w s)
+        (record { within = omega arith; below = λ j l. absurd (omega arith); above = λ j l m. absurd (omega arith) }) in
+        record {
+          within = omega (arith, e .within);
+          below = e .below;
+          above = λ j l m. e .above j (omega (arith, used-up)) m;
+        }
+
+    pub found-above : (r : Searched) → r ≡ binarySearch w s a → FirstAbove w s a (r .place)
+    found-above r e = rw e first-above

@@ -3,3 +3,4 @@ pub mod Words
 pub mod Paper
 pub mod Table
 pub mod Order
+pub mod Search

@@ -1,14 +1,15 @@
 // Tables in lent bytes: their little-endian fields, the refusals 1, 2 and 3 that a table gives, and the search by halving.
 // Everything above decodes through this crate; nothing else knows of bytes.
 ghost use mathlib.Core.Path.{_≡_};
-ghost use mathlib.Core.Bool.{true, cond};
+ghost use mathlib.Core.Bool.{cond};
 ghost use Prim.Native.Nat.{_+_, _≤_, _<_, min, max};
 ghost use lib.ListN.{length};
 ghost use lib.Dec.{ltb};
 ghost use Rattle.lent.specs.Le.{leAt};
 ghost use Rattle.lent.specs.Paper.{number, toldChecked};
 ghost use Rattle.lent.specs.Table.{shapeFault, ifPresent, omapShape, sectionShape, oldFrameShape, newFrameShape};
-ghost use Rattle.lent.specs.Order.{rising, keys, tableFault, omapFault, oldFrameFault, newFrameFault, FirstAbove};
+ghost use Rattle.lent.specs.Order.{rising, keys, tableFault, omapFault, oldFrameFault, newFrameFault};
+ghost use Rattle.lent.specs.Search.{binarySearch};
 
 // Why a table is refused: document 01's numbers 1, 2 and 3.
 pub enum Refusal {
@@ -217,18 +218,35 @@ fn chosen(first: bool, x: usize, y: usize) -> usize
     if first { x } else { y }
 }
 
-// The place of the first record of a table in order whose key is above `address`: by halving.
-pub fn first_above(table: &[u8], width: usize, address: u32) -> usize
-    requires { ⌜ (4 ≤ width) × (rising (keys width (now table)) ≡ true) ⌝ }
-    ensures { λ r. ⌜ FirstAbove width (now (table .entry)) address r ⌝ }
+// Where a search by halving ends, and how many records it probed.
+pub struct Searched {
+    pub place: usize,
+    pub probes: usize,
+}
+
+// The search by halving on any table. The middles of both halves are reckoned while the record is loaded: a step then
+// waits for one load and one choice.
+pub fn binary_search(table: &[u8], width: usize, address: u32) -> Searched
+    requires { ⌜ 4 ≤ width ⌝ }
+    ensures { λ r. ⌜ r ≡ binarySearch width (now (table .entry)) address ⌝ }
 {
-    let mut lo = 0;
-    let mut hi = table.len() / width;
-    while lo < hi {
-        let mid = lo + (hi - lo) / 2;
-        let past = u32_at(table, width * mid) <= address;
-        lo = chosen(past, mid + 1, lo);
-        hi = chosen(past, hi, mid);
+    let mut place = 0;
+    let mut size = table.len() / width;
+    let mut middle = size / 2;
+    let mut probes = 0;
+    while size > 0 {
+        let before = size / 2;
+        let after = size - (before + 1);
+        let in_after = middle + 1 + after / 2;
+        let in_before = place + before / 2;
+        let past = u32_at(table, width * middle) <= address;
+        place = chosen(past, middle + 1, place);
+        size = chosen(past, after, before);
+        middle = chosen(past, in_after, in_before);
+        probes += 1;
     }
-    lo
+    Searched {
+        place: place,
+        probes: probes,
+    }
 }

@@ -5,6 +5,7 @@ use mathlib.Core.Path.{_≡_, refl, sym, _∙_}
 use Prim.Native.Nat.{ℕ, _/_}
 use mathlib.Core.Bool.{Bool, cond}
 use mathlib.Core.List.{List}
+use mathlib.Core.Option.{Option, none, some}
 use lib.ListN.{length}
 use lib.Dec.{eqb}
 use Rattle.lent.specs.Paper.{Told, value, nothing, refused}
@@ -12,6 +13,7 @@ use Rattle.lent.specs.declared.Refusal.the-variants.{Length, Count, Order}
 use Rattle.lent.proofs.Answers.{refusal, one-answer}
 use Rattle.omap.specs.Records.{Entry}
 use Rattle.omap.specs.Lookup.{toldRecorded, recordSpec, toldLooked, lookupSpec}
+use Rattle.omap.specs.Quick.{Probed, toldQuick, quickSpec}
 use Rattle.omap.specs.Output.{toldCounted, countSpec, Window, counted, refusedAs, refusedFor, toldWindowed}
 use Rattle.omap.specs.Output.{windowSpec, windowOut}
 use Rattle.omap.specs.Step.{toldStarted, startSpec, Stepped, piece, done, refusedAt, toldStep, stepSpec}
@@ -19,6 +21,8 @@ use Rattle.omap.specs.declared.Recorded.{Recorded}
 use Rattle.omap.specs.declared.Recorded.the-variants as recorded
 use Rattle.omap.specs.declared.Looked.{Looked}
 use Rattle.omap.specs.declared.Looked.the-variants as looked
+use Rattle.omap.specs.declared.Quick.{Quick}
+use Rattle.omap.specs.declared.Quick.the-variants as quick
 use Rattle.omap.specs.declared.windows.Counted.{Counted}
 use Rattle.omap.specs.declared.windows.Counted.the-variants as count
 use Rattle.omap.specs.declared.windows.Windowed.{Windowed}
@@ -61,6 +65,27 @@ looked-back looked.TooLarge = refl
 pub one-lookup : (present : Bool) (s : List ℕ) (a : ℕ) (r q : Looked) → toldLooked r ≡ lookupSpec present s a
     → toldLooked q ≡ lookupSpec present s a → r ≡ q
 one-lookup present s a = one-answer toldLooked lookedBack looked-back (lookupSpec present s a)
+
+abbrev probedBack : ℕ → Option ℕ → Quick
+probedBack n (some t) = quick.At t n
+probedBack n none = quick.Nothing n
+
+abbrev quickBack : Told Probed → Quick
+quickBack (value p) = probedBack (p .probes) (p .translation)
+quickBack nothing = quick.TooLarge
+quickBack (refused n) = cond (eqb n 4) quick.TooLarge (quick.Refused (refusal n))
+
+quick-back : (r : Quick) → quickBack (toldQuick r) ≡ r
+quick-back (quick.At t n) = refl
+quick-back (quick.Nothing n) = refl
+quick-back (quick.Refused Length) = refl
+quick-back (quick.Refused Count) = refl
+quick-back (quick.Refused Order) = refl
+quick-back quick.TooLarge = refl
+
+pub one-quick : (present : Bool) (s : List ℕ) (a : ℕ) (r q : Quick) → toldQuick r ≡ quickSpec present s a
+    → toldQuick q ≡ quickSpec present s a → r ≡ q
+one-quick present s a = one-answer toldQuick quickBack quick-back (quickSpec present s a)
 
 abbrev countedBack : Told ℕ → Counted
 countedBack (value n) = count.Pieces n

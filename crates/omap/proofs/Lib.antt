@@ -1,5 +1,6 @@
 pub mod Last
 pub mod Lookups
+pub mod Probing
 pub mod Pieces
 pub mod Walking
 pub mod Counting

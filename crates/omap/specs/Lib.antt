@@ -1,5 +1,6 @@
 pub mod Records
 pub mod Lookup
+pub mod Quick
 pub mod Window
 pub mod Output
 pub mod Expand

@@ -114,7 +114,8 @@ fn start_in(table: &[u8], a: u32, b: u32) -> Started
             place: table.len() / lent::OMAP,
         });
     }
-    let k = lent::first_above(table, lent::OMAP, a);
+    let found = lent::binary_search(table, lent::OMAP, a);
+    let k = found.place;
     if k == 0 {
         return Started::At(Cursor {
             address: a,

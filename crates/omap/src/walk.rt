@@ -55,7 +55,8 @@ fn below(table: &[u8], b: u32) -> usize
     if b == 0 {
         return 0;
     }
-    lent::first_above(table, lent::OMAP, b - 1)
+    let found = lent::binary_search(table, lent::OMAP, b - 1);
+    found.place
 }
 
 // The place of the first record that can have a piece in a window from a on.
@@ -63,7 +64,8 @@ fn first_from(table: &[u8], a: u32) -> usize
     requires { ⌜ rising (keys 8 (now table)) ≡ true ⌝ }
     ensures { λ r. ⌜ Begins (now (table .entry)) a r ⌝ }
 {
-    let k = lent::first_above(table, lent::OMAP, a);
+    let found = lent::binary_search(table, lent::OMAP, a);
+    let k = found.place;
     if k == 0 {
         return 0;
     }

@@ -9,6 +9,7 @@ use native.Mathlib.Omega.{arith}
 use denote.Ref.{now}
 use Rattle.lent.specs.Order.{FirstAbove}
 use Rattle.lent.proofs.Place.{inside}
+use Rattle.lent.proofs.Search.{found-above}
 use Rattle.framedata.specs.Records.{Span, spanAt, spans}
 use Rattle.framedata.specs.Start.{covers, placeSpec}
 use Rattle.framedata.proofs.Entering.{hit, reaches, ends-before, enter-first, enter-before, enter-after}
@@ -17,7 +18,7 @@ use Rattle.framedata.proofs.start.place_at.Statement.{statement}
 use Rattle.framedata.proofs.start.place_at.Tie as tie
 
 -- the table, the address, and the place of the first record above it
-module _ (c : tie.After-first-above) where
+module _ (c : tie.After-binary-search) where
   abbrev w : ℕ
   w = c .before .before .args .width
 
@@ -28,10 +29,13 @@ module _ (c : tie.After-first-above) where
   a = c .before .before .args .address
 
   abbrev k : ℕ
-  k = c .first-above .result
+  k = c .binary-search .result .place
+
+  above : FirstAbove w s a k
+  above = found-above w s a (c .before .before .pre .1) (c .binary-search .result) (c .binary-search .ensures)
 
   before-it : 0 < k → covers a (spanAt w s (k - 1)) ≡ true → k - 1 ≡ placeSpec a (spans w s)
-  before-it pos e = sym (enter-before w s a k pos (c .first-above .ensures) e)
+  before-it pos e = sym (enter-before w s a k pos above e)
 
 -- the record just before the address, inside the table
 module _ (c : tie.Else1) where
@@ -41,16 +45,16 @@ module _ (c : tie.Else1) where
   room : w (c .before) * (k (c .before) - 1) + w (c .before) ≤ length (s (c .before))
   room =
       let p = c .before in
-      inside (w p) (length (s p)) (k p - 1) (omega (arith, p .first-above .ensures .within))
+      inside (w p) (length (s p)) (k p - 1) (omega (arith, above p .within))
 
-first-above-requires : tie.Need-first-above-requires
-first-above-requires c κs = search needs
+binary-search-requires : tie.Need-binary-search-requires
+binary-search-requires c κs = search needs
 
 returns : tie.Need-returns
 returns c =
     let p = c .before in
     let e : k p ≡ 0 = omega arith in
-    sym (enter-first (w p) (s p) (a p) (subst (FirstAbove (w p) (s p) (a p)) e (p .first-above .ensures)))
+    sym (enter-first (w p) (s p) (a p) (subst (FirstAbove (w p) (s p) (a p)) e (above p)))
 
 sub-place : tie.Need-sub-place
 sub-place c = search needs
@@ -78,7 +82,7 @@ u32-at-requires-2 c κs = omega (arith, room (c .before .before))
 sub-if3 : tie.Need-sub-if3
 sub-if3 c =
     let p = c .before .before .before .before in
-    omega (arith, p .first-above .ensures .below (k p - 1) (omega arith))
+    omega (arith, above p .below (k p - 1) (omega arith))
 
 returns-3 : tie.Need-returns-3
 returns-3 c =
@@ -91,13 +95,13 @@ returns-4 c =
     let e = c .before .before .before .before in
     let p = e .before in
     let covered = ends-before (a p) (x e) (omega arith) (omega arith) in
-    sym (enter-after (w p) (s p) (a p) (k p) (omega arith) (p .first-above .ensures) covered)
+    sym (enter-after (w p) (s p) (a p) (k p) (omega arith) (above p) covered)
 
 pub place-at-spec : {M : Type 1} → statement M
 place-at-spec =
     tie.close
     (tie.spec
-    first-above-requires
+    binary-search-requires
     returns
     sub-place
     mul-u32-at
