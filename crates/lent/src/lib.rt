@@ -224,29 +224,37 @@ pub struct Searched {
     pub probes: usize,
 }
 
-// The search by halving on any table. The middles of both halves are reckoned while the record is loaded: a step then
-// waits for one load and one choice.
+// The search by halving on any table. Written so that a processor need not wait: the middles of both halves are
+// reckoned while the record is loaded, and the number of turns does not depend on what is found, since all runs after
+// as many probes are `longest` records long or one less.
 pub fn binary_search(table: &[u8], width: usize, address: u32) -> Searched
     requires { ⌜ 4 ≤ width ⌝ }
     ensures { λ r. ⌜ r ≡ binarySearch width (now (table .entry)) address ⌝ }
 {
-    let mut place = 0;
-    let mut size = table.len() / width;
-    let mut middle = size / 2;
+    let mut lo = 0;
+    let mut hi = table.len() / width;
+    let mut middle = hi / 2;
+    let mut longest = hi;
     let mut probes = 0;
-    while size > 0 {
-        let before = size / 2;
-        let after = size - (before + 1);
-        let in_after = middle + 1 + after / 2;
-        let in_before = place + before / 2;
+    while longest > 1 {
         let past = u32_at(table, width * middle) <= address;
-        place = chosen(past, middle + 1, place);
-        size = chosen(past, after, before);
+        let in_after = (middle + 1 + hi) / 2;
+        let in_before = (lo + middle) / 2;
+        lo = chosen(past, middle + 1, lo);
+        hi = chosen(past, hi, middle);
         middle = chosen(past, in_after, in_before);
+        longest = longest / 2;
         probes += 1;
     }
+    if lo == hi {
+        return Searched {
+            place: lo,
+            probes: probes,
+        };
+    }
+    let past = u32_at(table, width * lo) <= address;
     Searched {
-        place: place,
-        probes: probes,
+        place: chosen(past, lo + 1, lo),
+        probes: probes + 1,
     }
 }

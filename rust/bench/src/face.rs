@@ -3,7 +3,7 @@
 
 use gillacorn::ffi::{
     Cursor, Flags, FrameAnswer, FrameCursor, FrameCursorAnswer, FrameStepAnswer, HeaderAnswer, OffsetAnswer, PairAnswer,
-    Piece, PiecesAnswer, RecordAnswer, SourcesAnswer, CursorAnswer, StepAnswer, ValueAnswer,
+    Piece, PiecesAnswer, QuickAnswer, RecordAnswer, SourcesAnswer, CursorAnswer, StepAnswer, ValueAnswer,
 };
 
 /// Each function, with slices in place of a pointer and a length.
@@ -68,6 +68,7 @@ face! {
 
     gillacorn_record_at(table: bytes, place: usize) -> RecordAnswer;
     gillacorn_lookup(present: bool, table: bytes, address: u32) -> ValueAnswer;
+    gillacorn_quick_lookup(present: bool, table: bytes, address: u32) -> QuickAnswer;
     gillacorn_window(present: bool, table: bytes, a: u32, b: u32, out: words) -> PiecesAnswer;
     gillacorn_list(present: bool, table: bytes, a: u32, b: u32, list: pieces) -> PiecesAnswer;
     gillacorn_cursor_start(present: bool, table: bytes, a: u32, b: u32) -> CursorAnswer;
@@ -101,9 +102,4 @@ face! {
 #[cfg(inner = "order")]
 face! {
     inner_order(table: bytes) -> bool;
-}
-
-#[cfg(inner = "search")]
-face! {
-    inner_search(table: bytes, address: u32) -> usize;
 }

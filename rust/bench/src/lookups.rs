@@ -1,9 +1,10 @@
 //! Single translations, and what they are made of: the order check and the search.
 
+use gillacorn::OMAPTable;
 use oracle::Tables;
 
 use crate::driver::{all, many, told, Driver};
-use crate::face::{self, gillacorn_lookup, gillacorn_record_at};
+use crate::face::{self, gillacorn_lookup, gillacorn_quick_lookup, gillacorn_record_at};
 use crate::inputs::{numbers, omap, omap_window, questions, FAR, SIZES};
 
 pub fn run(driver: &mut Driver) {
@@ -27,7 +28,7 @@ pub fn run(driver: &mut Driver) {
             || all(&asked, |a| told(theirs.lookup(a))),
         );
     }
-    search(driver);
+    quick(driver);
     order(driver);
 }
 
@@ -42,27 +43,33 @@ fn record(driver: &mut Driver) {
     });
 }
 
-/// The search by itself, with what a lookup does after it, since pdb's does that too.
-fn search(driver: &mut Driver) {
-    #[cfg(not(inner = "search"))]
-    driver.left_out("search alone", NO_INNER);
-    #[cfg(inner = "search")]
+/// The search alone, at the face and through the wrapper.
+fn quick(driver: &mut Driver) {
     for records in SIZES {
         let bytes = omap(records, FAR);
         let tables = Tables::new(&[Some(&bytes)]);
         let theirs = tables.omap(0).unwrap();
         let asked = numbers(2_000, omap_window(records));
+        let size = many(records, "record");
         driver.row(
-            &format!("search alone, {}", many(records, "record")),
+            &format!("quick lookup, {size}"),
             asked.len(),
             || {
                 all(&asked, |a| {
-                    let before = face::inner_search(&bytes, a);
-                    told(before.checked_sub(1).and_then(|place| {
-                        let record = &bytes[8 * place..8 * place + 8];
-                        let [source, target] = [word(&record[..4]), word(&record[4..])];
-                        (target != 0).then(|| a - source + target)
-                    }))
+                    let given = gillacorn_quick_lookup(true, &bytes, a);
+                    assert!(given.code == 0 || given.code == 255);
+                    told((given.code == 0).then_some(given.value))
+                })
+            },
+            || all(&asked, |a| told(theirs.lookup(a))),
+        );
+        let table = OMAPTable::new(&bytes);
+        driver.row(
+            &format!("quick lookup, {size}, wrapper"),
+            asked.len(),
+            || {
+                all(&asked, |a| {
+                    told(table.quick_lookup(a).unwrap().target_address)
                 })
             },
             || all(&asked, |a| told(theirs.lookup(a))),
@@ -95,10 +102,10 @@ fn order(driver: &mut Driver) {
     }
 }
 
-#[cfg(any(inner = "order", inner = "search"))]
+#[cfg(inner = "order")]
 fn word(bytes: &[u8]) -> u32 {
     u32::from_le_bytes(bytes.try_into().unwrap())
 }
 
-#[cfg(not(all(inner = "order", inner = "search")))]
+#[cfg(not(inner = "order"))]
 const NO_INNER: &str = "rust/native.sh gave no inner function for it";

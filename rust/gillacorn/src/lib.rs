@@ -29,6 +29,6 @@ pub use crate::addresses::{
 pub use crate::clashes::Sources;
 pub use crate::frames::{FrameCursor, FrameData, FrameDataIter, FrameTable, FrameType, StringRef};
 pub use crate::headers::{ImageSectionHeader, SectionCharacteristics, SectionTable};
-pub use crate::lookups::{OMAPRecord, OMAPTable};
+pub use crate::lookups::{OMAPRecord, OMAPTable, QuickLookup};
 pub use crate::refusal::{Refusal, Result};
 pub use crate::windows::{Cursor, Piece, RangeIter, Step};

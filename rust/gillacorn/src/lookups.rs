@@ -24,6 +24,15 @@ impl fmt::Debug for OMAPRecord {
     }
 }
 
+/// What a [quick lookup](OMAPTable::quick_lookup) gives.
+#[derive(Clone, Copy, Debug, Eq, Hash, PartialEq)]
+pub struct QuickLookup {
+    /// The translation, or none in a hole.
+    pub target_address: Option<u32>,
+    /// How many records the search probed: 21 at most.
+    pub probes: u32,
+}
+
 /// An OMAP table, lent as bytes: 8 for each record, source and target.
 ///
 /// ```
@@ -61,9 +70,37 @@ impl<'t> OMAPTable<'t> {
     }
 
     /// The translation of an address, or none in a hole. Refusals 1, 2, 3 and 4.
+    ///
+    /// The order is tested each time, so every question reads the whole table. Where the table has
+    /// been checked once, [`quick_lookup`](Self::quick_lookup) answers the same.
     #[inline]
     pub fn lookup(self, source_address: u32) -> Result<Option<u32>> {
         let given = ffi::lookup(Some(self.0).into(), source_address);
         answer(given.code, 0, given.value)
+    }
+    /// The translation by a binary search alone, and the number of records that it probed: for a
+    /// table whose order is known, by a [`lookup`](Self::lookup) or another question that was not
+    /// refused. On a table out of order, which is not refused, the answer means nothing. Refusals 1,
+    /// 2 and 4.
+    ///
+    /// ```
+    /// # use gillacorn::{OMAPTable, Refusal};
+    /// # let bytes: Vec<u8> = [0x10u32, 0x100, 0x20, 0x110].iter().flat_map(|n| n.to_le_bytes()).collect();
+    /// let table = OMAPTable::new(&bytes);
+    /// table.lookup(0)?; // 1, 2 or 3 if the table is no good
+    /// for address in [0x1f, 0x2f] {
+    ///     let quick = table.quick_lookup(address)?;
+    ///     assert_eq!(quick.target_address, table.lookup(address)?);
+    ///     assert!(quick.probes <= 2);
+    /// }
+    /// # Ok::<(), Refusal>(())
+    /// ```
+    #[inline]
+    pub fn quick_lookup(self, source_address: u32) -> Result<QuickLookup> {
+        let given = ffi::quick_lookup(Some(self.0).into(), source_address);
+        Ok(QuickLookup {
+            target_address: answer(given.code, 0, given.value)?,
+            probes: given.probes,
+        })
     }
 }

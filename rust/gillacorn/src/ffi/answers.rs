@@ -193,6 +193,13 @@ answers! {
         /// Its translation; 0 if these addresses have none.
         target: u32,
     }
+    /// A translation by the search alone.
+    QuickAnswer {
+        /// The translation.
+        value: u32,
+        /// How many records were probed; with a refusal 0.
+        probes: u32,
+    }
     /// How many pieces a window has.
     PiecesAnswer {
         /// Their number, also with refusal 5, where it is the number needed.

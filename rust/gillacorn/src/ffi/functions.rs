@@ -172,6 +172,7 @@ over_table! {
 
 over_lent! {
     lookup = gillacorn_lookup(address: u32) -> ValueAnswer;
+    quick_lookup = gillacorn_quick_lookup(address: u32) -> QuickAnswer;
     cursor_start = gillacorn_cursor_start(a: u32, b: u32) -> CursorAnswer;
 }
 
