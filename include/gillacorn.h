@@ -115,6 +115,7 @@ gillacorn_value_answer gillacorn_alignment(uint32_t characteristics);
 /* ---- OMAP tables ---- */
 
 typedef struct { uint32_t code; uint32_t source, target; } gillacorn_record_answer;
+typedef struct { uint32_t code; uint32_t value, probes; } gillacorn_quick_answer;
 typedef struct { uint32_t code; size_t pieces; } gillacorn_pieces_answer;
 typedef struct { uint32_t address, end, source, target; size_t place; } gillacorn_cursor;
 typedef struct { uint32_t code; gillacorn_cursor cursor; } gillacorn_cursor_answer;
@@ -123,8 +124,17 @@ typedef struct { uint32_t code; uint32_t start, end; gillacorn_cursor cursor; } 
 /* The record at a place from 0. None past the last; 1 or 2 for a bad table. */
 gillacorn_record_answer gillacorn_record_at(const uint8_t *table, size_t length, size_t place);
 
-/* The single translation of an address: 1, 2, 3, none, or 4. With no table, the address itself. */
+/* The single translation of an address: 1, 2, 3, none, or 4. With no table, the address itself.
+ * The order is tested each time, so every question reads the whole table. */
 gillacorn_value_answer gillacorn_lookup(bool present, const uint8_t *table, size_t length, uint32_t address);
+
+/* The same by the search alone, for a table whose order is known: since these bytes were asked
+ * something that needs order, and were not refused. 1, 2, none, or 4. On such a table the answer is
+ * that of gillacorn_lookup; on one that is out of order, which is not refused, it means nothing.
+ * `probes` is the number of records read on the way, 21 at most: also with none, and 0 where it is
+ * refused or there is no table. */
+gillacorn_quick_answer gillacorn_quick_lookup(bool present, const uint8_t *table, size_t length,
+                                              uint32_t address);
 
 /* The pieces of the window a..b, as pairs of start and excluded end in `out`; refusals 1, 2, 3, 4,
  * then 5. `pieces` is their number, also with code 5, where it is the number needed. */

@@ -56,6 +56,11 @@ GILLACORN_AT(gillacorn_flags, execute, 17);
 GILLACORN_AT(gillacorn_flags, read, 18);
 GILLACORN_AT(gillacorn_flags, write, 19);
 
+GILLACORN_SIZE(gillacorn_quick_answer, 12);
+GILLACORN_AT(gillacorn_quick_answer, code, 0);
+GILLACORN_AT(gillacorn_quick_answer, value, 4);
+GILLACORN_AT(gillacorn_quick_answer, probes, 8);
+
 GILLACORN_SIZE(gillacorn_record_answer, 12);
 GILLACORN_AT(gillacorn_record_answer, code, 0);
 GILLACORN_AT(gillacorn_record_answer, source, 4);

@@ -145,6 +145,8 @@ static void ask_window(const lent *l, uint32_t a)
 static void ask_marked(const lent *l, uint32_t a)
 {
     VALUE(AS(gillacorn_value_answer, gillacorn_lookup, MARKED, uint64_t)(GIVE_MARKED(l->omap), WORD(a)));
+    gillacorn_quick_answer q = AS(gillacorn_quick_answer, gillacorn_quick_lookup, MARKED, uint64_t)(GIVE_MARKED(l->omap), WORD(a));
+    next_answer(), tell(q.code), tell(q.value), tell(q.probes);
     ask_window(l, a);
     gillacorn_cursor_answer c = AS(gillacorn_cursor_answer, gillacorn_cursor_start, MARKED, uint64_t, uint64_t)(GIVE_MARKED(l->omap), WORD(a), WORD(0x1400));
     next_answer(), tell(c.code);

@@ -90,6 +90,33 @@ from=samples is 2 '' 'gillacorn: standard input, line 2: "half" is no hexadecima
 is 2 '' 'gillacorn: standard input can be read once' draw - 800 1300 -
 is 2 '' 'gillacorn: standard input can be read once' draw T 800 1300 - -
 
+# ---- lookup: any addresses, clash or not; the search alone on any table
+
+is 0 '000007FF hole
+000010FF 000050FF
+00001100 hole
+00001300 00005080' '' lookup T 7FF 0x10ff 1100 1300
+is 0 '000007FF hole probes 3
+000010FF 000050FF probes 3
+00001250 00004050 probes 2
+00001300 00005080 probes 2' '' lookup --quick T 7ff 10FF 1250 1300
+is 0 '00000001 hole probes 0' '' lookup empty 1 --quick
+printf '1000\n 1100 0x1200\n\n' >samples
+from=samples is 0 '00001000 00005000
+00001100 hole
+00001200 00004000' '' lookup T -
+from=T is 0 '00001000 00005000' '' lookup - 1000
+# Out of order: the full lookup refuses, and the search answers by its steps.
+is 1 '' "refused 3: $unordered" lookup swapped 1100
+is 0 '00001100 00005100 probes 1' '' lookup swapped 1100 --quick
+for quick in '' --quick; do
+    is 1 '' "refused 1: $long" lookup cut 1000 $quick
+    is 1 '' "refused 2: $many" lookup more 1000 $quick
+    is 1 '' "refused 4: $large" lookup high 100F 1010 $quick
+done
+is 0 '0000100F FFFFFFFF' '' lookup high 100F
+is 0 '0000100F FFFFFFFF probes 1' '' lookup --quick high 100F
+
 # ---- each refusal of an OMAP table, by each word that reads one
 
 for word in draw window clash back; do
@@ -193,6 +220,9 @@ is 0 '{"pieces":[{"source":[4096,4352],"target":[20480,20736]},{"source":[4352,4
     '' --json draw T 1000 1101
 is 1 '{"clash":{"first":4224,"second":4864,"target":20608}}' "$clash" draw --json T 800 1400
 is 1 "{\"refused\":1,\"sentence\":\"$long\"}" "refused 1: $long" draw --json cut 800 1400
+is 0 '{"addresses":[{"source":4096,"target":20480},{"source":4352,"target":null}]}' '' \
+    lookup T 1000 1100 --json
+is 0 '{"addresses":[{"source":4608,"target":16384,"probes":2}]}' '' lookup T 1200 --json --quick
 is 0 '{"pieces":[[20480,20736]]}' '' window --json T 800 1200
 is 0 '{"clash":null}' '' clash --json T 800 1300
 is 1 '{"targets":[{"target":20640,"sources":[4256,4896]},{"target":1,"sources":[]}]}' 'clash:*' \
@@ -221,6 +251,9 @@ is 2 '' '*"+5" is no hexadecimal address*' draw T +5 1300
 is 2 '' '*"100000000" is greater than FFFFFFFF*' draw T 0 100000000
 is 2 '' "*'-8'*" draw T -8 1300
 is 2 '' '*TARGET*' back T 800 1300
+is 2 '' '*ADDRESS*' lookup T
+is 2 '' '*ADDRESS*' lookup T --quick
+is 2 '' 'gillacorn: standard input can be read once' lookup - -
 is 2 '' "*'--jsn'*" window T 800 1300 --jsn
 is 2 '' '*<FILE>*' sections
 for words in --help -h 'draw --help' 'help frames' --version; do
@@ -230,7 +263,7 @@ for words in --help -h 'draw --help' 'help frames' --version; do
     asked=$((asked + 1))
 done
 run gillacorn --help >out
-for word in draw window clash back sections frames; do
+for word in draw lookup window clash back sections frames; do
     grep -q "^  $word " out || fail "--help has no word $word"
 done
 
@@ -305,11 +338,11 @@ if command -v script >/dev/null; then
         declare -f run
         declare -p built
         declare -p GILLACORN_EMULATOR 2>/dev/null || true
-        echo 'run gillacorn draw wide 100 1000 - <samples >drawn'
+        echo 'run gillacorn lookup wide - <samples >found'
     } >long.sh
     script -qec "bash long.sh" /dev/null </dev/null >terminal || fail "on a terminal: $(cat terminal)"
     grep -aq 'addresses: [0-9]* of 3000' terminal || fail "nothing is counted on a terminal"
-    [ "$(wc -l <drawn)" -eq 3000 ] || fail "on a terminal the answer is another"
+    [ "$(wc -l <found)" -eq 3000 ] || fail "on a terminal the answer is another"
     asked=$((asked + 1))
 fi
 

@@ -124,7 +124,10 @@ fn quick_look(table: &[u8], address: u32) -> Quick
         return Quick::Refused(why);
     }
     let found = lent::binary_search(table, lent::OMAP, address);
-    with_probes(translate_before(table, found.place, address), found.probes as u32)
+    with_probes(
+        translate_before(table, found.place, address),
+        found.probes as u32,
+    )
 }
 
 // A translation with the number of records probed for it. A refusal has none.

@@ -16,6 +16,7 @@ mod windows;
 ghost use mathlib.Core.Path.{_≡_};
 ghost use lib.ListN.{length};
 use comparison::Comparison;
+use report::COUNTS;
 
 // A file has fewer bytes than this.
 const MOST: usize = 1048576;
@@ -52,13 +53,14 @@ fn compared(operation: u8, s: &[u8]) -> Comparison {
         18 => frames::from_address(s),
         19 => frames::empty(s),
         20..=31 => addresses::conversion(s, operation),
+        32 => lookups::quick_lookup(s),
         _ => comparison::broken(),
     }
 }
 
 // Replays the cases of a file, and counts them and those in which we agree, by operation; place 0
 // counts all. Gives the place of the first case that breaks the format, or the file's length.
-fn replay(file: &[u8], cases: &mut [u64; 32], agreed: &mut [u64; 32]) -> usize {
+fn replay(file: &[u8], cases: &mut [u64; COUNTS], agreed: &mut [u64; COUNTS]) -> usize {
     let mut at = 0;
     while at < file.len() {
         let left = file.len() - at;
@@ -100,8 +102,8 @@ fn main() {
         io::write_all(1, b"the file is too large\n");
         return;
     }
-    let mut cases = [0u64; 32];
-    let mut agreed = [0u64; 32];
+    let mut cases = [0u64; COUNTS];
+    let mut agreed = [0u64; COUNTS];
     let end = replay(&file[..n], &mut cases, &mut agreed);
     if end < n {
         report::bad(end);

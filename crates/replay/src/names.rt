@@ -9,6 +9,7 @@ pub(crate) fn named(operation: u8) {
     match operation {
         1..=4 => pe(operation),
         5..=12 => omap(operation),
+        32 => write_all(1, b"quick_lookup"),
         15..=19 => frames(operation),
         20..=25 => from_rva(operation),
         _ => from_offset(operation),

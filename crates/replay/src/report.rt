@@ -3,6 +3,9 @@ use crate::names::named;
 use io::print_decimal;
 use io::write_all;
 
+// Places to count in: one for each operation, by its number, and place 0 for all.
+pub const COUNTS: usize = 33;
+
 // This many differing cases are shown.
 const SHOWN: u64 = 10;
 
@@ -21,16 +24,16 @@ fn less(n: u64, k: u64) -> u64 {
 }
 
 // One case more of an operation, and of all.
-pub(crate) fn counted(counts: &mut [u64; 32], operation: u8) {
+pub(crate) fn counted(counts: &mut [u64; COUNTS], operation: u8) {
     let i = operation as usize;
-    if i < 32 {
+    if i < COUNTS {
         counts[0] = more(counts[0]);
         counts[i] = more(counts[i]);
     }
 }
 
 // The case at `at` differs.
-pub(crate) fn differing(cases: &[u64; 32], agreed: &[u64; 32], at: usize, operation: u8) {
+pub(crate) fn differing(cases: &[u64; COUNTS], agreed: &[u64; COUNTS], at: usize, operation: u8) {
     if less(cases[0], agreed[0]) <= SHOWN {
         write_all(1, b"differs at ");
         print_decimal(1, at as u64);
@@ -47,22 +50,22 @@ pub(crate) fn bad(at: usize) {
 }
 
 // A line for each operation, and the last line.
-pub(crate) fn all(cases: &[u64; 32], agreed: &[u64; 32]) {
+pub(crate) fn all(cases: &[u64; COUNTS], agreed: &[u64; COUNTS]) {
     lines(cases, agreed);
     last(cases[0], less(cases[0], agreed[0]));
 }
 
-fn lines(cases: &[u64; 32], agreed: &[u64; 32]) {
+fn lines(cases: &[u64; COUNTS], agreed: &[u64; COUNTS]) {
     let mut operation = 1u8;
-    while operation < 32 {
+    while operation < 33 {
         line(cases, agreed, operation);
         operation += 1;
     }
 }
 
-fn line(cases: &[u64; 32], agreed: &[u64; 32], operation: u8) {
+fn line(cases: &[u64; COUNTS], agreed: &[u64; COUNTS], operation: u8) {
     let i = operation as usize;
-    if i < 32 {
+    if i < COUNTS {
         named(operation);
         write_all(1, b": ");
         print_decimal(1, cases[i]);

@@ -1,7 +1,7 @@
 //! Clashes and the way back, which pdb lacks: the time alone, and how it grows.
 
 use crate::driver::{all, many, Driver};
-use crate::face::{gillacorn_clash, gillacorn_window, gillacorn_way_back};
+use crate::face::{gillacorn_clash, gillacorn_way_back, gillacorn_window};
 use crate::inputs::{apart, numbers, questions, MOST};
 
 /// The whole of what `apart` makes.

@@ -2,8 +2,9 @@
 //! inner functions that native.sh gives C names.
 
 use gillacorn::ffi::{
-    Cursor, Flags, FrameAnswer, FrameCursor, FrameCursorAnswer, FrameStepAnswer, HeaderAnswer, OffsetAnswer, PairAnswer,
-    Piece, PiecesAnswer, QuickAnswer, RecordAnswer, SourcesAnswer, CursorAnswer, StepAnswer, ValueAnswer,
+    Cursor, CursorAnswer, Flags, FrameAnswer, FrameCursor, FrameCursorAnswer, FrameStepAnswer,
+    HeaderAnswer, OffsetAnswer, PairAnswer, Piece, PiecesAnswer, QuickAnswer, RecordAnswer,
+    SourcesAnswer, StepAnswer, ValueAnswer,
 };
 
 /// Each function, with slices in place of a pointer and a length.

@@ -40,10 +40,15 @@ pub fn file(name: &'static str, help: &'static str) -> Arg {
         .value_parser(value_parser!(OsString))
 }
 
+/// The OMAP table.
+pub fn omap_table() -> Arg {
+    file("TABLE", "The OMAP table, a file, or - for standard input").required(true)
+}
+
 /// A table and a window of its addresses.
 pub fn table_and_window() -> [Arg; 3] {
     [
-        file("TABLE", "The OMAP table, a file, or - for standard input").required(true),
+        omap_table(),
         Arg::new("A")
             .help("The first address of the window, hexadecimal")
             .required(true)

@@ -13,6 +13,7 @@ mod pe_file;
 mod progress;
 #[allow(unsafe_code)]
 mod streams;
+mod translations;
 mod words;
 
 use std::process::ExitCode;

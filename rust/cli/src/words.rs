@@ -4,6 +4,7 @@ mod back;
 mod clash;
 mod draw;
 mod frames;
+mod lookup;
 mod sections;
 mod window;
 
@@ -15,8 +16,9 @@ use crate::arguments::JSON;
 /// A word: what it takes, and what it does.
 type Word = (fn() -> Command, fn(&ArgMatches) -> Answered);
 
-const WORDS: [Word; 6] = [
+const WORDS: [Word; 7] = [
     (draw::command, draw::run),
+    (lookup::command, lookup::run),
     (window::command, window::run),
     (clash::command, clash::run),
     (back::command, back::run),

@@ -5,7 +5,7 @@ use std::fmt::{LowerHex, Write};
 use gillacorn::ffi::{Cursor, Frame, FrameCursor, Lent};
 use gillacorn::{ImageSectionHeader, SectionCharacteristics};
 
-use crate::rules::Answer;
+use crate::rules::{Answer, Quick};
 
 /// The input of one question, part by part.
 #[derive(Default)]
@@ -159,6 +159,21 @@ pub fn bits(marks: &[bool]) -> u32 {
         .iter()
         .rev()
         .fold(0, |n, &mark| n << 1 | u32::from(mark))
+}
+
+/// The code, the translation and the probes, or zeros where there are none.
+impl Put for Result<Quick, u32> {
+    fn put(&self, out: &mut Vec<u8>) {
+        let (code, target, probes) = match *self {
+            Ok(Quick { target, probes }) => match target {
+                Some(target) => (0, target, probes),
+                None => (255, 0, probes),
+            },
+            Err(number) => (number as u8, 0, 0),
+        };
+        code.put(out);
+        (target, probes).put(out);
+    }
 }
 
 /// The code, then the value, or its zeros where there is none.

@@ -5,8 +5,8 @@ use gillacorn::OMAPTable;
 
 use crate::judged::JudgedTable;
 use crate::operations::Op;
-use crate::ours::{both, given};
-use crate::rules;
+use crate::ours::{both, both_quick, given, given_quick};
+use crate::rules::{self, Quick};
 use crate::tally::{Listed, Tally};
 
 pub fn record(tally: &mut Tally, asked: &JudgedTable<'_>, place: usize) {
@@ -46,6 +46,26 @@ pub fn lookup(tally: &mut Tally, asked: &JudgedTable<'_>, address: u32) {
         ours = both(ours, OMAPTable::new(table).lookup(address));
     }
     tally.judge(Op::Lookup, rule, rust, ours, |case| {
+        case.lent("table", asked.lent).number("address", address);
+    });
+}
+
+/// On a table in order pdb's own lookup says what the translation is, and the rules how many records
+/// are probed for it; elsewhere the rules say both.
+pub fn quick_lookup(tally: &mut Tally, asked: &JudgedTable<'_>, address: u32) {
+    let rule = rules::quick_lookup(asked.table, address);
+    let rust = match (rule, rules::lookup(asked.table, address)) {
+        (Ok(quick), Ok(_)) => Some(Ok(Quick {
+            target: asked.rust.as_ref().unwrap().lookup(address),
+            ..quick
+        })),
+        _ => None,
+    };
+    let mut ours = given_quick(ffi::quick_lookup(asked.lent, address));
+    if let Some(table) = asked.table {
+        ours = both_quick(ours, OMAPTable::new(table).quick_lookup(address));
+    }
+    tally.judge(Op::QuickLookup, rule, rust, ours, |case| {
         case.lent("table", asked.lent).number("address", address);
     });
 }

@@ -39,7 +39,7 @@ type Group = (&'static str, u64, fn(&mut Tally, &mut Rng, u64));
 
 const GROUPS: &[Group] = &[
     ("headers", 1_300_000, headers::run),
-    ("omap", 3_800_000, omap::run),
+    ("omap", 4_300_000, omap::run),
     ("lists", 500_000, lists::run),
     ("clashes", 700_000, clashes::run),
     ("addresses", 2_500_000, addresses::run),

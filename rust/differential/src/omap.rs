@@ -11,9 +11,10 @@ use crate::rules::OMAP;
 use crate::tally::{Listed, Tally};
 use crate::windows::{self, cursors};
 
-const OPS: [Op; 5] = [
+const OPS: [Op; 6] = [
     Op::RecordAt,
     Op::Lookup,
+    Op::QuickLookup,
     Op::Window,
     Op::CursorStart,
     Op::CursorStep,
@@ -22,7 +23,7 @@ const OPS: [Op; 5] = [
 pub fn run(tally: &mut Tally, rng: &mut Rng, want: u64) {
     lengths(tally, rng);
     exhaustive(tally, rng);
-    large(tally);
+    large(tally, rng);
     // An empty table has no records here, and pdb agrees where aligned bytes are lent to it.
     let empty = oracle::Tables::new(&[Some(&[])]);
     if empty.omap(0).is_ok() && empty.omap_as_file(0).is_err() {
@@ -44,6 +45,7 @@ pub fn run(tally: &mut Tally, rng: &mut Rng, want: u64) {
         for _ in 0..12 {
             let at = address(rng);
             lookups::lookup(tally, &asked, at);
+            lookups::quick_lookup(tally, &asked, at);
         }
         for _ in 0..8 {
             let (a, b) = asked.some_window(rng);
@@ -69,6 +71,7 @@ fn lengths(tally: &mut Tally, rng: &mut Rng) {
             lookups::record(tally, &asked, usize::MAX);
             for (a, b) in [(0, u32::MAX), (5, 5), (7, 3), (0, 0), (1, u32::MAX)] {
                 lookups::lookup(tally, &asked, a);
+                lookups::quick_lookup(tally, &asked, a);
                 windows::around(tally, rng, &asked, a, b);
                 cursors::walk(tally, &asked, a, b);
             }
@@ -92,7 +95,10 @@ fn exhaustive(tally: &mut Tally, rng: &mut Rng) {
                 gen::push(&mut table, &[SOURCES[pair % 4], TARGETS[pair / 4]]);
             }
             let asked = JudgedTable::new(Some(&table[..]).into());
-            ENDS.iter().for_each(|&a| lookups::lookup(tally, &asked, a));
+            for a in ENDS {
+                lookups::lookup(tally, &asked, a);
+                lookups::quick_lookup(tally, &asked, a);
+            }
             if records < 3 {
                 for a in ENDS {
                     for b in ENDS {
@@ -105,10 +111,19 @@ fn exhaustive(tally: &mut Tally, rng: &mut Rng) {
     }
 }
 
-/// The most records, and one more; a window over the whole.
-fn large(tally: &mut Tally) {
-    for records in [OMAP.most, OMAP.most + 1] {
+/// The most records, one less and one more: in order, and turned round for the search alone; a window
+/// over the whole.
+fn large(tally: &mut Tally, rng: &mut Rng) {
+    for records in [OMAP.most - 1, OMAP.most, OMAP.most + 1] {
         let table = gen::large(OMAP, records);
+        let turned: Vec<u8> = table.rchunks_exact(OMAP.width).flatten().copied().collect();
+        for table in [&table, &turned] {
+            let asked = JudgedTable::new(Some(&table[..]).into());
+            for _ in 0..60 {
+                let address = gen::address(rng, table, OMAP, 0);
+                lookups::quick_lookup(tally, &asked, address);
+            }
+        }
         let asked = JudgedTable::new(Some(&table[..]).into());
         for place in [0, 1, OMAP.most - 1, OMAP.most, OMAP.most + 1] {
             lookups::record(tally, &asked, place);

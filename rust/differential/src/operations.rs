@@ -2,7 +2,7 @@
 
 macro_rules! operations {
     ($($op:ident = $number:literal, $name:literal;)*) => {
-        /// An operation, with its number in a replay.
+        /// An operation, with its number in a replay; from 100 on it is in none.
         #[derive(Clone, Copy, Debug, Eq, PartialEq)]
         pub enum Op { $($op),* }
 
@@ -27,6 +27,7 @@ operations! {
     Alignment = 4, "alignment";
     RecordAt = 5, "record_at";
     Lookup = 6, "lookup";
+    QuickLookup = 32, "quick_lookup";
     Window = 7, "window";
     CursorStart = 8, "cursor start";
     CursorStep = 9, "cursor step";
@@ -47,15 +48,15 @@ operations! {
     InternalOffsetToRva = 29, "PdbInternalSectionOffset::to_rva";
     InternalOffsetToInternalRva = 30, "PdbInternalSectionOffset::to_internal_rva";
     InternalOffsetToSectionOffset = 31, "PdbInternalSectionOffset::to_section_offset";
-    RvaRanges = 32, "rva_ranges";
-    InternalRvaRanges = 33, "internal_rva_ranges";
-    RangeIter = 34, "RangeIter (the wrapper's)";
+    RvaRanges = 101, "rva_ranges";
+    InternalRvaRanges = 102, "internal_rva_ranges";
+    RangeIter = 103, "RangeIter (the wrapper's)";
     OldFrame = 15, "old frame";
     NewFrame = 16, "new frame";
     FrameNext = 17, "frame iteration";
     FramesAt = 18, "frames from an address";
     FramesEmpty = 19, "is_empty";
-    Formats = 35, "Debug, Display, order (the wrapper's)";
+    Formats = 104, "Debug, Display, order (the wrapper's)";
 }
 
 /// Who says what is right.

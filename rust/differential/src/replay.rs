@@ -34,6 +34,7 @@
 //! | 18 | frames from an address | T old, T new, u32 address | code, u32 old_index, u32 new_index |
 //! | 19 | is_empty | T old, T new | code, u32 1 or 0 |
 //! | 20 to 31 | the conversions, in the face's order | T original_sections, T transformed_sections, T to_original, T to_transformed, u16 section, u32 rva or offset | code, u16 section, u32 rva or offset |
+//! | 32 | quick_lookup | T, u32 address | code, u32, u32 probes, which none has too |
 //!
 //! In 7 and 10 `pieces` is told with code 5 too. In 8 and 9 a refusal hands a cursor back: zeros for
 //! 8, the unchanged one for 9; in 9 code 255 comes with the cursor left behind. In 17 the end and a
@@ -64,7 +65,7 @@ fn quota(op: Op, judge: Judge) -> (usize, usize) {
     match (op.number(), judge) {
         (20..=31, Judge::Rust) => (80, 380),
         (20..=31, _) => (20, 380),
-        (32.., _) => (0, 0),
+        (100.., _) => (0, 0),
         (_, Judge::Rules) => (40, 200),
         _ => (250, 200),
     }

@@ -91,6 +91,54 @@ pub fn lookup(table: Option<&[u8]>, address: u32) -> Answer<u32> {
     translation(table, address).map(fits).transpose()
 }
 
+/// What a quick lookup gives.
+#[derive(Clone, Copy, Debug, Eq, PartialEq)]
+pub struct Quick {
+    pub target: Option<u32>,
+    pub probes: u32,
+}
+
+/// The lookup by the steps of a search alone, on any table.
+pub fn quick_lookup(table: Option<&[u8]>, address: u32) -> Result<Quick, u32> {
+    let table = match table {
+        Some(table) => table,
+        None => {
+            return Ok(Quick {
+                target: Some(address),
+                probes: 0,
+            })
+        }
+    };
+    OMAP.count(table)?;
+    let (place, probes) = steps(table, address);
+    let before = place.checked_sub(1).map(|place| record(table, place));
+    let target = match before.transpose()?.flatten() {
+        Some((source, target)) if target != 0 => {
+            let into = u64::from(address) - u64::from(source);
+            Some(fits(into + u64::from(target))?)
+        }
+        _ => None,
+    };
+    Ok(Quick { target, probes })
+}
+
+/// A search in a run of records: where it ends, counted from the run's first, and how many it probes.
+fn steps(run: &[u8], address: u32) -> (usize, u32) {
+    let count = run.len() / OMAP.width;
+    if count == 0 {
+        return (0, 0);
+    }
+    let (before, rest) = run.split_at(OMAP.width * (count / 2));
+    let (probed, after) = rest.split_at(OMAP.width);
+    if u32_at(probed, 0) <= address {
+        let (place, probes) = steps(after, address);
+        (count / 2 + 1 + place, 1 + probes)
+    } else {
+        let (place, probes) = steps(before, address);
+        (place, 1 + probes)
+    }
+}
+
 /// The pieces of a window.
 pub fn pieces(table: Option<&[u8]>, a: u32, b: u32) -> Result<Vec<(u32, u32)>, u32> {
     let table = match table {

@@ -8,7 +8,8 @@ use gillacorn::{OMAPTable, Refusal};
 
 use super::clash::{self, Clash};
 use crate::answer::{Answer, Answered, Stop};
-use crate::{arguments, input, json, progress};
+use crate::translations::{Translation, Translations};
+use crate::{arguments, input, json};
 
 pub fn command() -> Command {
     Command::new("draw")
@@ -37,20 +38,20 @@ pub fn run(matches: &ArgMatches) -> Answered {
     Ok(Box::new(match clash::find(table, window.clone())? {
         Some(clash) => Drawn::Nothing(clash),
         None if whole => Drawn::Whole(pieces(table, window)?),
-        None => Drawn::Addresses(translations(table, addresses)?),
+        None => Drawn::Addresses(Translations::of(addresses, |source| {
+            translate(table, source)
+        })?),
     }))
 }
 
-type Translations = Vec<(u32, Option<u32>)>;
 type Pieces = Vec<(Range<u32>, Option<Range<u32>>)>;
 
-fn translations(table: OMAPTable<'_>, addresses: Vec<u32>) -> Result<Translations, Refusal> {
-    progress::during("addresses", Some(addresses.len()), |done| {
-        let translate = |address| {
-            done.one_more();
-            Ok((address, table.lookup(address)?))
-        };
-        addresses.into_iter().map(translate).collect()
+/// The clash check has found the table in order: the search alone answers as the full lookup does.
+fn translate(table: OMAPTable<'_>, source: u32) -> Result<Translation, Refusal> {
+    Ok(Translation {
+        source,
+        target: table.quick_lookup(source)?.target_address,
+        probes: None,
     })
 }
 
@@ -87,14 +88,7 @@ impl Answer for Drawn {
         let mut text = String::new();
         match self {
             Drawn::Nothing(_) => {}
-            Drawn::Addresses(translations) => {
-                for (source, target) in translations {
-                    let _ = match target {
-                        Some(target) => writeln!(text, "{source:08X} {target:08X}"),
-                        None => writeln!(text, "{source:08X} hole"),
-                    };
-                }
-            }
+            Drawn::Addresses(translations) => text = translations.text(),
             Drawn::Whole(pieces) => {
                 for (source, target) in pieces {
                     let _ = write!(text, "{:08X}..{:08X} ", source.start, source.end);
@@ -112,13 +106,7 @@ impl Answer for Drawn {
         let range = |range: &Range<u32>| format!("[{},{}]", range.start, range.end);
         match self {
             Drawn::Nothing(clash) => format!("{{\"clash\":{}}}\n", clash.json()),
-            Drawn::Addresses(translations) => {
-                let list = json::list(translations, |text, (source, target)| {
-                    let target = json::number(*target);
-                    let _ = write!(text, "{{\"source\":{source},\"target\":{target}}}");
-                });
-                format!("{{\"addresses\":{list}}}\n")
-            }
+            Drawn::Addresses(translations) => translations.json(),
             Drawn::Whole(pieces) => {
                 let list = json::list(pieces, |text, (source, target)| {
                     let target = target.as_ref().map_or_else(|| "null".into(), range);

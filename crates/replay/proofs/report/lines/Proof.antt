@@ -8,7 +8,7 @@ abbrev Inv-loop : tie.InvT-loop
 Inv-loop cases agreed operation₀ operation = Unit {0}
 
 abbrev μ-loop : tie.MeasureT-loop
-μ-loop cases agreed operation₀ operation = 32 - operation
+μ-loop cases agreed operation₀ operation = 33 - operation
 
 loop-holds : tie.Need-loop-holds Inv-loop μ-loop
 loop-holds c = search needs

@@ -8,12 +8,12 @@ use Rattle.lent.specs.Table.{listed, shapeFault}
 use Rattle.lent.specs.Order.{risingAfter, rising, tableFault, lastAt}
 use Rattle.omap.specs.Records.{records, holderOf, moved, single}
 use Rattle.omap.specs.Lookup.{lookupSpec}
-use Rattle.cases.proofs.lookups.all.Statement.{statement}
-use Rattle.cases.proofs.lookups.all.Tie as tie
+use Rattle.cases.proofs.lookups.full.Statement.{statement}
+use Rattle.cases.proofs.lookups.full.Tie as tie
 
-pub all-spec : {M : Type 1} → statement M
+pub full-spec : {M : Type 1} → statement M
 unfolding leAt listed shapeFault risingAfter rising tableFault records orElse lastAt moved single lookupSpec
-all-spec =
+full-spec =
     tie.close
     (tie.spec
     (λ c. search needs)
