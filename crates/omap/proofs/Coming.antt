@@ -21,7 +21,7 @@ use Rattle.omap.specs.Window.{Piece, nextOf, pieceOf, pieces}
 use Rattle.omap.specs.Output.{besideStart, fits, allFit, sumFault, flat}
 use Rattle.omap.specs.Turn.{Turn, on, pulled, turnWith, endOf, turns}
 use Rattle.omap.specs.Step.{piece, refusedAt, pieceOr, firstPiece}
-use Rattle.omap.specs.Run.{yielded, run, entries}
+use Rattle.omap.specs.Yields.{yielded, yields, entries}
 use Rattle.omap.specs.declared.cursor.Cursor.{Cursor}
 use Rattle.omap.proofs.Last.{first-above, rest-above}
 use Rattle.omap.proofs.Pieces.{piece-empty, piece-zero, piece-some}
@@ -195,13 +195,13 @@ steps zero l = nothing
 steps (suc n) l = onePiece (steps n) l
 
 module _ (present : Bool) (s : List ℕ) (shaped : none ≡ omapShape (ifPresent present s)) where
-  pub run-yields : (n : ℕ) (c : Cursor) (l : List Entry) → rest (ifPresent present s) (c .place) ≡ l → Inside c l
-      → run present s n c ≡ steps n (come c l)
-  unfolding run steps
-  run-yields zero c l at i = refl
-  run-yields (suc n) c l at i =
+  pub yields-steps : (n : ℕ) (c : Cursor) (l : List Entry) → rest (ifPresent present s) (c .place) ≡ l → Inside c l
+      → yields present s n c ≡ steps n (come c l)
+  unfolding yields steps
+  yields-steps zero c l at i = refl
+  yields-steps (suc n) c l at i =
       rw (step-good present s (ifPresent present s) c refl shaped, at)
-      (walk-yields (ifPresent present s) (run present s n) (steps n) (run-yields n) l c c at i)
+      (walk-yields (ifPresent present s) (yields present s n) (steps n) (yields-steps n) l c c at i)
 
 both : (f g : Bool) (x y : ℕ) (l : List ℕ)
     → cond f (andThen (unless (cond g none (some 4)) (value l)) (λ (k : List ℕ). value (x ∷ (y ∷ k)))) (refused 4)

@@ -20,13 +20,13 @@ use Rattle.omap.specs.Records.{Entry, entryAt, records, rest, sources, h
 use Rattle.omap.specs.Window.{nextOf, pieces, windowPieces}
 use Rattle.omap.specs.Output.{allFit, sumFault, flat}
 use Rattle.omap.specs.Step.{countUpTo, onto, startOn, startSpec}
-use Rattle.omap.specs.Run.{run, entries}
+use Rattle.omap.specs.Yields.{yields, entries}
 use Rattle.omap.specs.declared.cursor.Cursor.{Cursor}
 use Rattle.omap.proofs.Last.{sources-keys, in-order, first-above, rest-above}
 use Rattle.omap.proofs.Pieces.{piece-empty, piece-zero}
 use Rattle.omap.proofs.Expansion.{above-none}
 use Rattle.omap.specs.Turn.{on}
-use Rattle.omap.proofs.Coming.{empty-window, steps, run-yields, steps-all, steps-early}
+use Rattle.omap.proofs.Coming.{empty-window, steps, yields-steps, steps-all, steps-early}
 
 -- where a cursor starts: x is the last of some records at or below a, and l those after it
 record Begins (a b : ℕ) (all : List Entry) (x : Entry) (l : List Entry) : Type 0 where
@@ -102,15 +102,15 @@ module _ (s : List ℕ) (a b : ℕ) (good : omapFault s ≡ none) (w : b ≤ 429
   shaped = no-shape (omapShape s) (orderFault 8 s) good
 
   start-record : (all l : List Entry) (o : Option Entry) (p : ℕ) → rest s p ≡ l → Begins a b all (orHere o nowhere) l
-      → run true s n (onto a b p o) ≡ steps n (pieces a b all)
+      → yields true s n (onto a b p o) ≡ steps n (pieces a b all)
   start-record all l none p at st =
-      run-yields true s shaped n (onto a b p none) l at
+      yields-steps true s shaped n (onto a b p none) l at
       (record { small = w; begun = λ q. st .below; ahead = λ q. st .ahead }) ∙ ap (steps n) (sym (st .same))
   start-record all l (some x) p at st =
-      run-yields true s shaped n (onto a b p (some x)) l at
+      yields-steps true s shaped n (onto a b p (some x)) l at
       (record { small = w; begun = λ q. st .below; ahead = λ q. st .ahead }) ∙ ap (steps n) (sym (st .same))
 
-  start-yields : run true s n (startOn (records s) a b) ≡ steps n (pieces a b (records s))
+  start-yields : yields true s n (startOn (records s) a b) ≡ steps n (pieces a b (records s))
   unfolding startOn pieces put
   start-yields =
       ⊎-elim
@@ -125,7 +125,7 @@ module _ (s : List ℕ) (a b : ℕ) (good : omapFault s ≡ none) (w : b ≤ 429
       (λ (h : b ≤ a).
       let c : Cursor = record { address = 0; end = 0; source = 0; target = 0; place = length (records s) } in
       rw (le-leb b a h)
-      (run-yields true s shaped n c (rest s (c .place)) refl
+      (yields-steps true s shaped n c (rest s (c .place)) refl
       (record { small = omega arith; begun = λ q. omega arith; ahead = λ (q : 0 < 0). absurd (omega arith) })
       ∙ ap (steps n) (empty-window 0 0 (omega arith) (on c ∷ rest s (c .place)) ∙ sym
       (empty-window a b h (records s)))))
@@ -146,35 +146,35 @@ module _ (s : List ℕ) (a b : ℕ) (c : Cursor) where
   started-none e = cc
 
 -- n steps of a started cursor
-yields : (present : Bool) (s : List ℕ) (a b : ℕ) (c : Cursor) → startSpec present s a b ≡ value c → b ≤ 4294967295
+started-yields : (present : Bool) (s : List ℕ) (a b : ℕ) (c : Cursor) → startSpec present s a b ≡ value c → b ≤ 4294967295
     → (n : ℕ)
-    → run present s n c ≡ steps n (windowPieces present s a b)
+    → yields present s n c ≡ steps n (windowPieces present s a b)
 unfolding shapeFault listed risingAfter
-yields true s a b c e w n =
+started-yields true s a b c e w n =
     let g = started s a b c e in
-    ap (run true s n) (sym (g .1)) ∙ start-yields s a b (g .0) w n
-yields false s a b c e w n =
-    ap (run false s n) (sym (started-none s a b c e))
-    ∙ run-yields false s refl n (record { address = a; end = b; source = a; target = a; place = 0 }) [] refl
+    ap (yields true s n) (sym (g .1)) ∙ start-yields s a b (g .0) w n
+started-yields false s a b c e w n =
+    ap (yields false s n) (sym (started-none s a b c e))
+    ∙ yields-steps false s refl n (record { address = a; end = b; source = a; target = a; place = 0 }) [] refl
     (record { small = w; begun = λ q. omega arith; ahead = λ q. refl })
 
 -- A started cursor, stepped to its end, yields the pieces of the whole-window call as pairs, in order, and then it is
 -- done; or it is refused 4 where that call is. One step more than there are pieces is enough.
 pub stepping : (present : Bool) (s : List ℕ) (a b : ℕ) (c : Cursor) → startSpec present s a b ≡ value c → b ≤ 4294967295
-    → (n : ℕ) → length (windowPieces present s a b) < n → run present s n c ≡ entries (windowPieces present s a b)
-stepping present s a b c e w n h = yields present s a b c e w n ∙ steps-all n (windowPieces present s a b) h
+    → (n : ℕ) → length (windowPieces present s a b) < n → yields present s n c ≡ entries (windowPieces present s a b)
+stepping present s a b c e w n h = started-yields present s a b c e w n ∙ steps-all n (windowPieces present s a b) h
 
 -- the same where every piece fits: nothing is refused
 pub stepping-fits : (present : Bool) (s : List ℕ) (a b : ℕ) (c : Cursor) → startSpec present s a b ≡ value c
     → b ≤ 4294967295
     → allFit (windowPieces present s a b) ≡ true
-    → (n : ℕ) → length (windowPieces present s a b) < n → run present s n c ≡ value (flat (windowPieces present s a b))
+    → (n : ℕ) → length (windowPieces present s a b) < n → yields present s n c ≡ value (flat (windowPieces present s a b))
 unfolding entries sumFault
 stepping-fits present s a b c e w f n h = stepping present s a b c e w n h ∙ rw f
 
 -- a started cursor never meets refusal 6
 pub never-early : (present : Bool) (s : List ℕ) (a b : ℕ) (c : Cursor) → startSpec present s a b ≡ value c
     → b ≤ 4294967295
-    → (n : ℕ) → run present s n c ≡ refused 6 → ⊥
+    → (n : ℕ) → yields present s n c ≡ refused 6 → ⊥
 never-early present s a b c e w n r = steps-early n (windowPieces present s a b)
-    (sym (yields present s a b c e w n) ∙ r)
+    (sym (started-yields present s a b c e w n) ∙ r)

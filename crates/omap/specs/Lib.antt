@@ -7,5 +7,5 @@ pub mod Expand
 pub mod Turn
 pub mod Step
 pub mod Turned
-pub mod Run
+pub mod Yields
 pub mod Walk

@@ -15,7 +15,7 @@ use Rattle.omap.specs.Window.{windowPieces}
 use Rattle.omap.specs.declared.walk.Piece.{Piece as MappedPiece}
 use Rattle.omap.specs.Output.{flat, windowFault, windowSpec, windowOut}
 use Rattle.omap.specs.Step.{Stepped, piece, done, refusedAt, startOn, startSpec, stepSpec}
-use Rattle.omap.specs.Run.{yielded, run}
+use Rattle.omap.specs.Yields.{yielded, yields}
 use Rattle.omap.specs.declared.cursor.Cursor.{Cursor}
 use Rattle.omap.proofs.Outputs.{length-flat}
 use Rattle.omap.proofs.Stepping.{stepping-fits}
@@ -84,25 +84,25 @@ pub record TakenFrom (present : Bool) (s : List ℕ) (l : List ℕ) (t : TakenPi
   pub yields : YieldsAll present s (t .next) on
 
 module _ {present : Bool} {s : List ℕ} where
-  piece-taken : (n : ℕ) (o : Told (List ℕ)) (f e : ℕ) (c : Cursor) (l : List ℕ) → run present s n c ≡ o
+  piece-taken : (n : ℕ) (o : Told (List ℕ)) (f e : ℕ) (c : Cursor) (l : List ℕ) → yields present s n c ≡ o
       → andThen o (λ (k : List ℕ). value (f ∷ (e ∷ k))) ≡ value l
       → TakenFrom present s l (record { start = f; end = e; next = c })
   piece-taken n (value k) f e c l r q = record { on = k; split = cc; yields = record { steps = n; gives = r } }
   piece-taken n nothing f e c l r q = let z : _≡_ {A = ℕ} 0 1 = cc in absurd (omega arith)
   piece-taken n (refused m) f e c l r q = let z : _≡_ {A = ℕ} 0 1 = cc in absurd (omega arith)
 
-  by-step : (n : ℕ) (l : List ℕ) (x : Stepped) → 0 < length l → yielded x (run present s n) ≡ value l
+  by-step : (n : ℕ) (l : List ℕ) (x : Stepped) → 0 < length l → yielded x (yields present s n) ≡ value l
       → TakenFrom present s l (asTaken x)
-  by-step n l (piece f e c) h q = piece-taken n (run present s n c) f e c l refl q
+  by-step n l (piece f e c) h q = piece-taken n (yields present s n c) f e c l refl q
   by-step n l (done c) h q = let z : l ≡ [] = cc in absurd (omega (arith, ap length z))
   by-step n l (refusedAt k c) h q = let z : _≡_ {A = ℕ} 0 1 = cc in absurd (omega arith)
 
-  by-run : (n : ℕ) (c : Cursor) (l : List ℕ) → 0 < length l → run present s n c ≡ value l
+  by-yield : (n : ℕ) (c : Cursor) (l : List ℕ) → 0 < length l → yields present s n c ≡ value l
       → TakenFrom present s l (asTaken (stepSpec present s c))
-  unfolding run
-  by-run zero c l h q = let z : _≡_ {A = ℕ} 0 1 = cc in absurd (omega arith)
-  by-run (suc n) c l h q = by-step n l (stepSpec present s c) h q
+  unfolding yields
+  by-yield zero c l h q = let z : _≡_ {A = ℕ} 0 1 = cc in absurd (omega arith)
+  by-yield (suc n) c l h q = by-step n l (stepSpec present s c) h q
 
   pub taken-from : {c : Cursor} {l : List ℕ} {t : TakenPiece} → YieldsAll present s c l → 0 < length l
       → t ≡ asTaken (stepSpec present s c) → TakenFrom present s l t
-  taken-from {c} {l} {t} g h e = subst (TakenFrom present s l) (sym e) (by-run (g .steps) c l h (g .gives))
+  taken-from {c} {l} {t} g h e = subst (TakenFrom present s l) (sym e) (by-yield (g .steps) c l h (g .gives))

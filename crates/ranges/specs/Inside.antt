@@ -11,7 +11,7 @@ use Rattle.omap.specs.declared.walk.Piece.{Piece as MappedPiece}
 use Rattle.omap.specs.Walk.{left, Bounded, Spans}
 use Rattle.omap.specs.Output.{allFit, flat, Window, counted, refusedAs, refusedFor, toldWindowed, windowSpec}
 use Rattle.omap.specs.Step.{Stepped, piece, done, refusedAt}
-use Rattle.omap.specs.Run.{run}
+use Rattle.omap.specs.Yields.{yields}
 use Rattle.omap.specs.declared.walk.Span.{Span}
 use Rattle.omap.specs.declared.cursor.Cursor.{Cursor}
 use Rattle.ranges.specs.declared.WindowPlan.{WindowPlan}
@@ -57,7 +57,7 @@ asTaken (refusedAt n c) = record { start = 0; end = 0; next = c }
 -- stepped to its end, the cursor yields these numbers
 pub record YieldsAll (present : Bool) (s : List ℕ) (c : Cursor) (l : List ℕ) : Type 0 where
   pub steps : ℕ
-  pub gives : run present s steps c ≡ value l
+  pub gives : yields present s steps c ≡ value l
 
 pub record DrainPlanned (present : Bool) (s : List ℕ) (a b places : ℕ) (r : DrainPlan) : Type 0 where
   pub answers : toldWindowed (r .answer) ≡ windowSpec present s a b (places / 2)

@@ -3,7 +3,7 @@
 use gillacorn::OMAPTable;
 use oracle::Tables;
 
-use crate::driver::{all, many, told, Driver};
+use crate::driver::{all, in_turn, many, told, Driver};
 use crate::face::{self, gillacorn_lookup, gillacorn_quick_lookup, gillacorn_record_at};
 use crate::inputs::{numbers, omap, omap_window, questions, FAR, SIZES};
 
@@ -43,36 +43,36 @@ fn record(driver: &mut Driver) {
     });
 }
 
-/// The search alone, at the face and through the wrapper.
+/// The search alone: at the face, through the wrapper, and with each question waiting for the answer
+/// before it, so that no two searches overlap.
 fn quick(driver: &mut Driver) {
     for records in SIZES {
         let bytes = omap(records, FAR);
         let tables = Tables::new(&[Some(&bytes)]);
         let theirs = tables.omap(0).unwrap();
         let asked = numbers(2_000, omap_window(records));
-        let size = many(records, "record");
-        driver.row(
-            &format!("quick lookup, {size}"),
-            asked.len(),
-            || {
-                all(&asked, |a| {
-                    let given = gillacorn_quick_lookup(true, &bytes, a);
-                    assert!(given.code == 0 || given.code == 255);
-                    told((given.code == 0).then_some(given.value))
-                })
-            },
-            || all(&asked, |a| told(theirs.lookup(a))),
-        );
         let table = OMAPTable::new(&bytes);
+        let face = |a| {
+            let given = gillacorn_quick_lookup(true, &bytes, a);
+            assert!(given.code == 0 || given.code == 255);
+            told((given.code == 0).then_some(given.value))
+        };
+        let wrapper = |a| told(table.quick_lookup(a).unwrap().target_address);
+        let pdb = |a| told(theirs.lookup(a));
+        let row = format!("quick lookup, {}", many(records, "record"));
+        let count = asked.len();
+        driver.row(&row, count, || all(&asked, face), || all(&asked, pdb));
         driver.row(
-            &format!("quick lookup, {size}, wrapper"),
-            asked.len(),
-            || {
-                all(&asked, |a| {
-                    told(table.quick_lookup(a).unwrap().target_address)
-                })
-            },
-            || all(&asked, |a| told(theirs.lookup(a))),
+            &format!("{row}, wrapper"),
+            count,
+            || all(&asked, wrapper),
+            || all(&asked, pdb),
+        );
+        driver.row(
+            &format!("{row}, each waits for the one before"),
+            count,
+            || in_turn(&asked, face),
+            || in_turn(&asked, pdb),
         );
     }
 }

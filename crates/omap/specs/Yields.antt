@@ -16,9 +16,9 @@ yielded (refusedAt n c) on = refused n
 
 -- what a cursor yields, step after step, until it is done: its pieces as pairs, or the refusal that it meets; none if n
 -- steps do not do
-unfoldable pub run : Bool → List ℕ → ℕ → Cursor → Told (List ℕ)
-run present s zero c = nothing
-run present s (suc n) c = yielded (stepSpec present s c) (run present s n)
+unfoldable pub yields : Bool → List ℕ → ℕ → Cursor → Told (List ℕ)
+yields present s zero c = nothing
+yields present s (suc n) c = yielded (stepSpec present s c) (yields present s n)
 
 -- the pieces of a window as pairs, or 4 if one does not fit
 unfoldable pub entries : List Piece → Told (List ℕ)
