@@ -1,15 +1,12 @@
--- Each promise leaves one answer: it can be read back from the paper's terms.
+-- Each promise leaves one answer: it can be read back from the paper's terms. Where a promise tells an address
+-- (`get_virtual_address`, `place_cross` and the conversions to an address) omap's `one-looked` says so.
 -- Assumes nothing.
 use mathlib.Core.Path.{_≡_, refl}
-use Prim.Native.Nat.{ℕ}
 use mathlib.Core.Bool.{cond}
 use lib.Dec.{eqb}
 use Rattle.lent.specs.Paper.{Told, value, nothing, refused}
 use Rattle.lent.specs.declared.Refusal.the-variants.{Length, Count, Order}
 use Rattle.lent.proofs.Answers.{refusal, one-answer}
-use Rattle.omap.specs.Lookup.{toldLooked}
-use Rattle.omap.specs.declared.Looked.{Looked}
-use Rattle.omap.specs.declared.Looked.the-variants as looked
 use Rattle.address_map.specs.Sections.{Offset, toldLocated}
 use Rattle.address_map.specs.declared.sections.Located.{Located}
 use Rattle.address_map.specs.declared.sections.Located.the-variants as located
@@ -31,20 +28,3 @@ located-back located.TooLarge = refl
 -- conversions to an offset
 pub one-located : (t : Told Offset) (r q : Located) → toldLocated r ≡ t → toldLocated q ≡ t → r ≡ q
 one-located = one-answer toldLocated locatedBack located-back
-
-abbrev lookedBack : Told ℕ → Looked
-lookedBack (value a) = looked.At a
-lookedBack nothing = looked.Nothing
-lookedBack (refused n) = cond (eqb n 4) looked.TooLarge (looked.Refused (refusal n))
-
-looked-back : (r : Looked) → lookedBack (toldLooked r) ≡ r
-looked-back (looked.At a) = refl
-looked-back looked.Nothing = refl
-looked-back (looked.Refused Length) = refl
-looked-back (looked.Refused Count) = refl
-looked-back (looked.Refused Order) = refl
-looked-back looked.TooLarge = refl
-
--- where a promise tells an address: `get_virtual_address`, `place_cross` and the conversions to an address
-pub one-lookup : (t : Told ℕ) (r q : Looked) → toldLooked r ≡ t → toldLooked q ≡ t → r ≡ q
-one-lookup = one-answer toldLooked lookedBack looked-back

@@ -60,7 +60,11 @@ impl Rva {
         has_to_original: bool,
         to_original: &[u8],
     ) -> Located
-        ensures { λ r. ⌜ toldLocated r ≡ crossLocate «has_to_original» (now («to_original» .entry)) (ifPresent «has_original» (now (original .entry))) (self .0) ⌝ }
+        ensures { λ r. ⌜
+            toldLocated r
+            ≡ crossLocate «has_to_original» (now («to_original» .entry))
+            (ifPresent «has_original» (now (original .entry))) (self .0)
+            ⌝ }
     {
         let sections = lent::if_present(has_original, original);
         paths::cross_locate(has_to_original, to_original, sections, self.0)
@@ -85,7 +89,11 @@ impl PdbInternalRva {
         has_to_transformed: bool,
         to_transformed: &[u8],
     ) -> Located
-        ensures { λ r. ⌜ toldLocated r ≡ crossLocate «has_to_transformed» (now («to_transformed» .entry)) (actual «has_original» (now (original .entry)) «has_transformed» (now (transformed .entry))) (self .0) ⌝ }
+        ensures { λ r. ⌜
+            toldLocated r
+            ≡ crossLocate «has_to_transformed» (now («to_transformed» .entry))
+            (actual «has_original» (now (original .entry)) «has_transformed» (now (transformed .entry))) (self .0)
+            ⌝ }
     {
         let sections = paths::actual_sections(has_original, original, has_transformed, transformed);
         paths::cross_locate(has_to_transformed, to_transformed, sections, self.0)
@@ -109,7 +117,11 @@ impl SectionOffset {
         has_transformed: bool,
         transformed: &'s [u8],
     ) -> Looked
-        ensures { λ r. ⌜ toldLooked r ≡ addressSpec (actual «has_original» (now (original .entry)) «has_transformed» (now (transformed .entry))) (inSection (self .section) (self .offset)) ⌝ }
+        ensures { λ r. ⌜
+            toldLooked r
+            ≡ addressSpec (actual «has_original» (now (original .entry)) «has_transformed» (now (transformed .entry)))
+            (inSection (self .section) (self .offset))
+            ⌝ }
     {
         let sections = paths::actual_sections(has_original, original, has_transformed, transformed);
         sections::get_virtual_address(sections, self.section, self.offset)
@@ -125,7 +137,11 @@ impl SectionOffset {
         has_to_original: bool,
         to_original: &[u8],
     ) -> Looked
-        ensures { λ r. ⌜ toldLooked r ≡ placeCross (actual «has_original» (now (original .entry)) «has_transformed» (now (transformed .entry))) «has_to_original» (now («to_original» .entry)) (inSection (self .section) (self .offset)) ⌝ }
+        ensures { λ r. ⌜
+            toldLooked r
+            ≡ placeCross (actual «has_original» (now (original .entry)) «has_transformed» (now (transformed .entry)))
+            «has_to_original» (now («to_original» .entry)) (inSection (self .section) (self .offset))
+            ⌝ }
     {
         let sections = paths::actual_sections(has_original, original, has_transformed, transformed);
         paths::place_cross(
@@ -147,7 +163,12 @@ impl SectionOffset {
         has_to_original: bool,
         to_original: &[u8],
     ) -> Located
-        ensures { λ r. ⌜ toldLocated r ≡ placeCrossLocate «has_transformed» (now (transformed .entry)) «has_to_original» (now («to_original» .entry)) (ifPresent «has_original» (now (original .entry))) (inSection (self .section) (self .offset)) ⌝ }
+        ensures { λ r. ⌜
+            toldLocated r
+            ≡ placeCrossLocate «has_transformed» (now (transformed .entry)) «has_to_original»
+            (now («to_original» .entry)) (ifPresent «has_original» (now (original .entry)))
+            (inSection (self .section) (self .offset))
+            ⌝ }
     {
         let sections = lent::if_present(has_original, original);
         paths::place_cross_locate(
@@ -171,7 +192,11 @@ impl PdbInternalSectionOffset {
         has_to_transformed: bool,
         to_transformed: &[u8],
     ) -> Looked
-        ensures { λ r. ⌜ toldLooked r ≡ placeCross (ifPresent «has_original» (now (original .entry))) «has_to_transformed» (now («to_transformed» .entry)) (inSection (self .section) (self .offset)) ⌝ }
+        ensures { λ r. ⌜
+            toldLooked r
+            ≡ placeCross (ifPresent «has_original» (now (original .entry))) «has_to_transformed»
+            (now («to_transformed» .entry)) (inSection (self .section) (self .offset))
+            ⌝ }
     {
         let sections = lent::if_present(has_original, original);
         paths::place_cross(
@@ -201,7 +226,12 @@ impl PdbInternalSectionOffset {
         has_to_transformed: bool,
         to_transformed: &[u8],
     ) -> Located
-        ensures { λ r. ⌜ toldLocated r ≡ placeCrossLocate «has_transformed» (ifPresent «has_original» (now (original .entry))) «has_to_transformed» (now («to_transformed» .entry)) (now (transformed .entry)) (inSection (self .section) (self .offset)) ⌝ }
+        ensures { λ r. ⌜
+            toldLocated r
+            ≡ placeCrossLocate «has_transformed» (ifPresent «has_original» (now (original .entry)))
+            «has_to_transformed» (now («to_transformed» .entry)) (now (transformed .entry))
+            (inSection (self .section) (self .offset))
+            ⌝ }
     {
         let sections = lent::if_present(has_original, original);
         paths::place_cross_locate(

@@ -76,7 +76,11 @@ pub fn place_cross_locate(
     section: u16,
     offset: u32,
 ) -> Located
-    ensures { λ r. ⌜ toldLocated r ≡ placeCrossLocate «has_transformed» (now (from .entry)) present (now (omap .entry)) (now (to .entry)) (inSection section offset) ⌝ }
+    ensures { λ r. ⌜
+        toldLocated r
+        ≡ placeCrossLocate «has_transformed» (now (from .entry)) present (now (omap .entry)) (now (to .entry))
+        (inSection section offset)
+        ⌝ }
 {
     if has_transformed {
         locate(place_cross(from, present, omap, section, offset), to)

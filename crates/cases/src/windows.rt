@@ -30,7 +30,10 @@ fn same(a: &[u32; 7], b: &[u32; 7])
 
 // The window a..b of a present table: the answer, and what stands in the output then.
 fn shows(table: &[u8], a: u32, b: u32, code: u32, pieces: usize, left: &[u32; 7])
-    requires { ⌜ (piecesAnswer (windowSpec true (now table) a b 3) ≡ record { code = code; pieces = pieces }) × (windowOut true (now table) a b nines ≡ now left) ⌝ }
+    requires { ⌜
+        (piecesAnswer (windowSpec true (now table) a b 3) ≡ record { code = code; pieces = pieces })
+        × (windowOut true (now table) a b nines ≡ now left)
+        ⌝ }
 {
     let mut out = [9u32; 7];
     let told = gillacorn_window(true, table, a, b, &mut out);

@@ -73,7 +73,11 @@ fn source_of(piece: Piece, target: u64) -> u32
 // The best of what is found so far and of what record i, whose target is below that, takes below b to the targets from
 // `from` on.
 fn better(table: &[u8], i: usize, last: usize, b: u32, from: u64, target: u64, best: Best) -> Best
-    requires { ⌜ (rising (keys 8 (now table)) ≡ true) × ((Below (now table) b last) × ((i < last) × ((from < best .target) × ((target ≡ leAt 4 (now table) (8 * i + 4)) × (target < best .target))))) ⌝ }
+    requires { ⌜
+        (rising (keys 8 (now table)) ≡ true)
+        × ((Below (now table) b last) × ((i < last) ×
+        ((from < best .target) × ((target ≡ leAt 4 (now table) (8 * i + 4)) × (target < best .target)))))
+        ⌝ }
     ensures { λ r. ⌜ Better (now (table .entry)) b i from best r ⌝ }
 {
     if target == 0 {

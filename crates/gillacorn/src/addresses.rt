@@ -96,7 +96,10 @@ pub extern "C" fn gillacorn_internal_rva_to_section_offset<'s>(
     has_to_transformed: bool,
     to_transformed: &'s [u8],
 ) -> OffsetAnswer
-    ensures { λ r. ⌜ r ≡ offsetAnswer (crossLocate «has_to_transformed» (now («to_transformed» .entry)) (actual «has_original» (now (original .entry)) «has_transformed» (now (transformed .entry))) rva) ⌝ }
+    ensures { λ r. ⌜
+        r ≡ offsetAnswer (crossLocate «has_to_transformed» (now («to_transformed» .entry))
+        (actual «has_original» (now (original .entry)) «has_transformed» (now (transformed .entry))) rva)
+        ⌝ }
 {
     offset_answer(PdbInternalRva(rva).to_section_offset(
         has_original,
@@ -138,7 +141,11 @@ pub extern "C" fn gillacorn_offset_to_rva<'s>(
     has_to_transformed: bool,
     to_transformed: &'s [u8],
 ) -> ValueAnswer
-    ensures { λ r. ⌜ r ≡ valueAnswer (addressSpec (actual «has_original» (now (original .entry)) «has_transformed» (now (transformed .entry))) (inSection section offset)) ⌝ }
+    ensures { λ r. ⌜
+        r ≡ valueAnswer (addressSpec
+        (actual «has_original» (now (original .entry)) «has_transformed» (now (transformed .entry)))
+        (inSection section offset))
+        ⌝ }
 {
     value_answer(SectionOffset { offset, section }.to_rva(
         has_original,
@@ -161,7 +168,11 @@ pub extern "C" fn gillacorn_offset_to_internal_rva<'s>(
     has_to_transformed: bool,
     to_transformed: &'s [u8],
 ) -> ValueAnswer
-    ensures { λ r. ⌜ r ≡ valueAnswer (placeCross (actual «has_original» (now (original .entry)) «has_transformed» (now (transformed .entry))) «has_to_original» (now («to_original» .entry)) (inSection section offset)) ⌝ }
+    ensures { λ r. ⌜
+        r ≡ valueAnswer (placeCross
+        (actual «has_original» (now (original .entry)) «has_transformed» (now (transformed .entry))) «has_to_original»
+        (now («to_original» .entry)) (inSection section offset))
+        ⌝ }
 {
     value_answer(SectionOffset { offset, section }.to_internal_rva(
         has_original,
@@ -186,7 +197,10 @@ pub extern "C" fn gillacorn_offset_to_internal_offset<'s>(
     has_to_transformed: bool,
     to_transformed: &'s [u8],
 ) -> OffsetAnswer
-    ensures { λ r. ⌜ r ≡ offsetAnswer (placeCrossLocate «has_transformed» (now (transformed .entry)) «has_to_original» (now («to_original» .entry)) (ifPresent «has_original» (now (original .entry))) (inSection section offset)) ⌝ }
+    ensures { λ r. ⌜
+        r ≡ offsetAnswer (placeCrossLocate «has_transformed» (now (transformed .entry)) «has_to_original»
+        (now («to_original» .entry)) (ifPresent «has_original» (now (original .entry))) (inSection section offset))
+        ⌝ }
 {
     offset_answer(SectionOffset { offset, section }.to_internal_offset(
         has_original,
@@ -211,7 +225,10 @@ pub extern "C" fn gillacorn_internal_offset_to_rva<'s>(
     has_to_transformed: bool,
     to_transformed: &'s [u8],
 ) -> ValueAnswer
-    ensures { λ r. ⌜ r ≡ valueAnswer (placeCross (ifPresent «has_original» (now (original .entry))) «has_to_transformed» (now («to_transformed» .entry)) (inSection section offset)) ⌝ }
+    ensures { λ r. ⌜
+        r ≡ valueAnswer (placeCross (ifPresent «has_original» (now (original .entry))) «has_to_transformed»
+        (now («to_transformed» .entry)) (inSection section offset))
+        ⌝ }
 {
     value_answer(PdbInternalSectionOffset { offset, section }.to_rva(
         has_original,
@@ -255,7 +272,10 @@ pub extern "C" fn gillacorn_internal_offset_to_section_offset<'s>(
     has_to_transformed: bool,
     to_transformed: &'s [u8],
 ) -> OffsetAnswer
-    ensures { λ r. ⌜ r ≡ offsetAnswer (placeCrossLocate «has_transformed» (ifPresent «has_original» (now (original .entry))) «has_to_transformed» (now («to_transformed» .entry)) (now (transformed .entry)) (inSection section offset)) ⌝ }
+    ensures { λ r. ⌜
+        r ≡ offsetAnswer (placeCrossLocate «has_transformed» (ifPresent «has_original» (now (original .entry)))
+        «has_to_transformed» (now («to_transformed» .entry)) (now (transformed .entry)) (inSection section offset))
+        ⌝ }
 {
     offset_answer(PdbInternalSectionOffset { offset, section }.to_section_offset(
         has_original,

@@ -254,7 +254,10 @@ pub extern "C" fn gillacorn_frame_next(
     has_new: bool,
     new_frames: &[u8],
 ) -> FrameStepAnswer
-    ensures { λ r. ⌜ r ≡ frameStepAnswer (stepSpec (ifPresent «has_old» (now («old_frames» .entry))) (ifPresent «has_new» (now («new_frames» .entry))) cursor) ⌝ }
+    ensures { λ r. ⌜
+        r ≡ frameStepAnswer (stepSpec (ifPresent «has_old» (now («old_frames» .entry)))
+        (ifPresent «has_new» (now («new_frames» .entry))) cursor)
+        ⌝ }
 {
     frame_step_answer(cursor.step(has_old, old_frames, has_new, new_frames))
 }
@@ -267,7 +270,10 @@ pub extern "C" fn gillacorn_frames_at(
     has_new: bool,
     new_frames: &[u8],
 ) -> FrameCursorAnswer
-    ensures { λ r. ⌜ r ≡ frameCursorAnswer (startSpec address (ifPresent «has_old» (now («old_frames» .entry))) (ifPresent «has_new» (now («new_frames» .entry)))) ⌝ }
+    ensures { λ r. ⌜
+        r ≡ frameCursorAnswer (startSpec address (ifPresent «has_old» (now («old_frames» .entry)))
+        (ifPresent «has_new» (now («new_frames» .entry))))
+        ⌝ }
 {
     frame_cursor_answer(framedata::start_at(address, has_old, old_frames, has_new, new_frames))
 }

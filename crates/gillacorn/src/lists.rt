@@ -16,7 +16,10 @@ pub extern "C" fn gillacorn_list(
     b: u32,
     list: &mut [Piece],
 ) -> PiecesAnswer
-    ensures { λ r. ⌜ (r ≡ piecesAnswer (windowSpec present (now (table .entry)) a b (length (now (list .entry))))) × (now (list .exit) ≡ listOut present (now (table .entry)) a b (now (list .entry))) ⌝ }
+    ensures { λ r. ⌜
+        (r ≡ piecesAnswer (windowSpec present (now (table .entry)) a b (length (now (list .entry)))))
+        × (now (list .exit) ≡ listOut present (now (table .entry)) a b (now (list .entry)))
+        ⌝ }
 {
     pieces_answer(ranges::list(present, table, a, b, list))
 }

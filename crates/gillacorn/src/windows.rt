@@ -113,7 +113,10 @@ pub extern "C" fn gillacorn_window(
     b: u32,
     out: &mut [u32],
 ) -> PiecesAnswer
-    ensures { λ r. ⌜ (r ≡ piecesAnswer (windowSpec present (now (table .entry)) a b (length (now (out .entry)) / 2))) × (now (out .exit) ≡ windowOut present (now (table .entry)) a b (now (out .entry))) ⌝ }
+    ensures { λ r. ⌜
+        (r ≡ piecesAnswer (windowSpec present (now (table .entry)) a b (length (now (out .entry)) / 2)))
+        × (now (out .exit) ≡ windowOut present (now (table .entry)) a b (now (out .entry)))
+        ⌝ }
 {
     pieces_answer(omap::windows::window(present, table, a, b, out))
 }

@@ -62,9 +62,13 @@ looked-back (looked.Refused Count) = refl
 looked-back (looked.Refused Order) = refl
 looked-back looked.TooLarge = refl
 
+-- wherever a promise tells an address
+pub one-looked : (t : Told ℕ) (r q : Looked) → toldLooked r ≡ t → toldLooked q ≡ t → r ≡ q
+one-looked = one-answer toldLooked lookedBack looked-back
+
 pub one-lookup : (present : Bool) (s : List ℕ) (a : ℕ) (r q : Looked) → toldLooked r ≡ lookupSpec present s a
     → toldLooked q ≡ lookupSpec present s a → r ≡ q
-one-lookup present s a = one-answer toldLooked lookedBack looked-back (lookupSpec present s a)
+one-lookup present s a = one-looked (lookupSpec present s a)
 
 abbrev probedBack : ℕ → Option ℕ → Quick
 probedBack n (some t) = quick.At t n

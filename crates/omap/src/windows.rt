@@ -49,7 +49,11 @@ fn marked_check(present: bool, table: &[u8]) -> Checked
 // The number of pieces, once the table is checked.
 fn count_pieces(present: bool, table: &[u8], a: u32, b: u32) -> Counted
     requires { ⌜ InOrder present (now table) ⌝ }
-    ensures { λ r. ⌜ toldCounted r ≡ unless (sumFault (windowPieces present (now (table .entry)) a b)) (value (length (windowPieces present (now (table .entry)) a b))) ⌝ }
+    ensures { λ r. ⌜
+        toldCounted r
+        ≡ unless (sumFault (windowPieces present (now (table .entry)) a b))
+        (value (length (windowPieces present (now (table .entry)) a b)))
+        ⌝ }
 {
     let walk = span_of(present, table, a, b);
     let last = walk.last;
@@ -86,7 +90,11 @@ pub fn count(present: bool, table: &[u8], a: u32, b: u32) -> Counted
 
 // Writes the pieces of a..b as pairs.
 fn fill(present: bool, table: &[u8], a: u32, b: u32, out: &mut [u32])
-    requires { ⌜ (InOrder present (now table)) × ((allFit (windowPieces present (now table) a b) ≡ true) × (length (flat (windowPieces present (now table) a b)) ≤ length (now out))) ⌝ }
+    requires { ⌜
+        (InOrder present (now table))
+        × ((allFit (windowPieces present (now table) a b) ≡ true) ×
+        (length (flat (windowPieces present (now table) a b)) ≤ length (now out)))
+        ⌝ }
     ensures { λ _. ⌜ now (out .exit) ≡ writtenOver (flat (windowPieces present (now (table .entry)) a b)) (now (out .entry)) ⌝ }
 {
     let walk = span_of(present, table, a, b);
@@ -111,7 +119,10 @@ fn fill(present: bool, table: &[u8], a: u32, b: u32, out: &mut [u32])
 
 // The pieces of a..b as pairs of start and end, in source order. A refused call writes nothing.
 pub fn window(present: bool, table: &[u8], a: u32, b: u32, out: &mut [u32]) -> Windowed
-    ensures { λ r. ⌜ (toldWindowed r ≡ windowSpec present (now (table .entry)) a b (length (now (out .entry)) / 2)) × (now (out .exit) ≡ windowOut present (now (table .entry)) a b (now (out .entry))) ⌝ }
+    ensures { λ r. ⌜
+        (toldWindowed r ≡ windowSpec present (now (table .entry)) a b (length (now (out .entry)) / 2))
+        × (now (out .exit) ≡ windowOut present (now (table .entry)) a b (now (out .entry)))
+        ⌝ }
 {
     let counted = count(present, table, a, b);
     match counted {

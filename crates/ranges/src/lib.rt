@@ -96,7 +96,10 @@ fn pull(present: bool, table: &[u8], a: u32, b: u32, span: Span) -> PulledPiece
 // The pieces of a..b as records of start and end, in source order, with the answers of `omap::windows::window`; an entry
 // of the lent list is a record. A refused call writes nothing.
 pub fn list(present: bool, table: &[u8], a: u32, b: u32, out: &mut [Piece]) -> Windowed
-    ensures { λ r. ⌜ (toldWindowed r ≡ windowSpec present (now (table .entry)) a b (length (now (out .entry)))) × (now (out .exit) ≡ listOut present (now (table .entry)) a b (now (out .entry))) ⌝ }
+    ensures { λ r. ⌜
+        (toldWindowed r ≡ windowSpec present (now (table .entry)) a b (length (now (out .entry))))
+        × (now (out .exit) ≡ listOut present (now (table .entry)) a b (now (out .entry)))
+        ⌝ }
 {
     let plan = plan(present, table, a, b, out.len());
     let n = plan.count;

@@ -123,7 +123,10 @@ fn plan_drain(present: bool, table: &[u8], a: u32, b: u32, places: usize) -> Dra
 
 // The pieces of a..b as pairs, as `omap::windows::window` writes them: a reader is stepped once for each.
 pub fn drain(present: bool, table: &[u8], a: u32, b: u32, out: &mut [u32]) -> Windowed
-    ensures { λ r. ⌜ (toldWindowed r ≡ windowSpec present (now (table .entry)) a b (length (now (out .entry)) / 2)) × (now (out .exit) ≡ windowOut present (now (table .entry)) a b (now (out .entry))) ⌝ }
+    ensures { λ r. ⌜
+        (toldWindowed r ≡ windowSpec present (now (table .entry)) a b (length (now (out .entry)) / 2))
+        × (now (out .exit) ≡ windowOut present (now (table .entry)) a b (now (out .entry)))
+        ⌝ }
 {
     let plan = plan_drain(present, table, a, b, out.len());
     let n = plan.numbers;
