@@ -51,6 +51,24 @@ static void translate(uint32_t address)
                gillacorn_refusal_text(answer.code));
 }
 
+/* Samples of one table: its order is tested once, and then each is found by the search alone. */
+static void quickly(const uint32_t *samples, size_t count)
+{
+    gillacorn_value_answer checked = gillacorn_lookup(true, omap, sizeof omap, 0);
+    if (checked.code != GILLACORN_VALUE && checked.code != GILLACORN_NONE)
+        refused("samples", checked.code);
+    for (size_t i = 0; i < count; i++) {
+        gillacorn_quick_answer answer = gillacorn_quick_lookup(true, omap, sizeof omap, samples[i]);
+        if (answer.code == GILLACORN_VALUE)
+            printf("%08" PRIX32 " %08" PRIX32, samples[i], answer.value);
+        else if (answer.code == GILLACORN_NONE)
+            printf("%08" PRIX32 " hole", samples[i]);
+        else
+            refused("samples", answer.code);
+        printf(", %" PRIu32 " probes\n", answer.probes);
+    }
+}
+
 /* The pieces of a window: asked with no room first, which tells how much is needed. */
 static void window(uint32_t a, uint32_t b)
 {
@@ -150,6 +168,8 @@ int main(void)
     translate(0x10FF);
     translate(0x1100);
     translate(0xFFFFFFFF);
+    static const uint32_t samples[] = {0x1080, 0x1180, 0x1280};
+    quickly(samples, sizeof samples / sizeof *samples);
     window(0x0800, 0x1400);
     clash(0x0800, 0x1400);
     clash(0x1000, 0x1300);

@@ -333,16 +333,20 @@ gave "a closed standard error" 1 '' ''
 
 if command -v script >/dev/null; then
     perl -e 'print pack "V2", 16 * $_ + 16, 16 * $_ + 16 for 0 .. 99999' >wide
-    perl -e 'printf "%x\n", 0x100 + $_ for 0 .. 2999' >samples
+    perl -e 'printf "%x\n", 0x100 + $_ for 0 .. 1499' >samples
     {
         declare -f run
         declare -p built
         declare -p GILLACORN_EMULATOR 2>/dev/null || true
-        echo 'run gillacorn lookup wide - <samples >found'
+        echo 'run gillacorn back wide 0 FFFFFFFF - <samples >found'
     } >long.sh
+    began=$SECONDS
     script -qec "bash long.sh" /dev/null </dev/null >terminal || fail "on a terminal: $(cat terminal)"
-    grep -aq 'addresses: [0-9]* of 3000' terminal || fail "nothing is counted on a terminal"
-    [ "$(wc -l <found)" -eq 3000 ] || fail "on a terminal the answer is another"
+    # What takes less than a second is not counted.
+    if [ $((SECONDS - began)) -ge 2 ]; then
+        grep -aq 'targets: [0-9]* of 1500' terminal || fail "nothing is counted on a terminal"
+    fi
+    [ "$(wc -l <found)" -eq 1500 ] || fail "on a terminal the answer is another"
     asked=$((asked + 1))
 fi
 

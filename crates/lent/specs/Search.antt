@@ -24,7 +24,7 @@ after r = record { place = middle r + 1; size = r .size - (r .size / 2 + 1); pro
 abbrev pub before : Run → Run
 before r = record { place = r .place; size = r .size / 2; probes = r .probes + 1 }
 
--- after a probe: those after the record if its key is at most a, else those before it
+-- what is left after a probe: the records after the probed one if its key is at most a, else those before it
 unfoldable pub probed : ℕ → List ℕ → ℕ → Run → Run
 probed w s a r = cond (leb (keyAt w s (middle r)) a) (after r) (before r)
 
@@ -37,7 +37,8 @@ halved w s a (suc n) r = cond (eqb (r .size) 0) r (halved w s a n (probed w s a 
 abbrev pub whole : ℕ → List ℕ → Run
 whole w s = record { place = 0; size = length s / w; probes = 0 }
 
--- the empty run that the whole table ends in: a probe makes a run shorter, so there are no more probes than records
+-- the empty run that the whole table ends in: a probe makes a run shorter, so as many probes as there are records are
+-- enough (`used-up`)
 abbrev pub ended : ℕ → List ℕ → ℕ → Run
 ended w s a = halved w s a (length s / w) (whole w s)
 

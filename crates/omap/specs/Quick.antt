@@ -16,17 +16,17 @@ pub record Probed : Type 0 where
   pub translation : Option ℕ
   pub probes : ℕ
 
-abbrev pub toldQuick : Quick → Told Probed
-toldQuick (quick.At t n) = value (record { translation = some t; probes = n })
-toldQuick (quick.Nothing n) = value (record { translation = none; probes = n })
-toldQuick (quick.Refused why) = refused (number why)
-toldQuick quick.TooLarge = refused 4
-
--- an answer with the number of records probed for it; a refusal reports none
+-- an answer with the number of records probed for it, which none has too; a refusal reports none
 abbrev pub reported : ℕ → Told ℕ → Told Probed
 reported n (value t) = value (record { translation = some t; probes = n })
 reported n nothing = value (record { translation = none; probes = n })
 reported n (refused why) = refused why
+
+abbrev pub toldQuick : Quick → Told Probed
+toldQuick (quick.At t n) = reported n (value t)
+toldQuick (quick.Nothing n) = reported n nothing
+toldQuick (quick.Refused why) = refused (number why)
+toldQuick quick.TooLarge = refused 4
 
 -- the record just before a place
 abbrev pub recordBefore : List ℕ → ℕ → Option Entry
@@ -42,7 +42,7 @@ unfoldable pub quickSpec : Bool → List ℕ → ℕ → Told Probed
 quickSpec present s a =
     cond present (unless (omapShape s) (answeredAt s a (binarySearch 8 s a))) (reported 0 (value a))
 
--- the same answer as the full lookup tells it
+-- an answer as the full lookup tells it
 abbrev pub toldOf : Option ℕ → Told ℕ
 toldOf none = nothing
 toldOf (some t) = value t

@@ -2,32 +2,42 @@
 
 use std::fmt::Write;
 
-use gillacorn::Refusal;
+use gillacorn::{OMAPTable, Refusal};
 
 use crate::{json, progress};
 
 /// An address, and where it goes; none is a hole.
-pub struct Translation {
-    pub source: u32,
-    pub target: Option<u32>,
+struct Translation {
+    source: u32,
+    target: Option<u32>,
     /// How many records were probed, where that is told.
-    pub probes: Option<u32>,
+    probes: Option<u32>,
 }
 
 pub struct Translations(Vec<Translation>);
 
 impl Translations {
-    /// Of each address, or the first refusal.
+    /// Of each address by the search alone, or the first refusal. On a table that was found to be in
+    /// order these are the answers of the full lookup.
     pub fn of(
+        table: OMAPTable<'_>,
         addresses: Vec<u32>,
-        translate: impl Fn(u32) -> Result<Translation, Refusal>,
+        tell_probes: bool,
     ) -> Result<Self, Refusal> {
         let found = progress::during("addresses", Some(addresses.len()), |done| {
-            let one = |address| {
+            let translate = |source| {
                 done.one_more();
-                translate(address)
+                let found = table.quick_lookup(source)?;
+                Ok(Translation {
+                    source,
+                    target: found.target_address,
+                    probes: tell_probes.then_some(found.probes),
+                })
             };
-            addresses.into_iter().map(one).collect::<Result<_, _>>()
+            addresses
+                .into_iter()
+                .map(translate)
+                .collect::<Result<_, Refusal>>()
         })?;
         Ok(Translations(found))
     }

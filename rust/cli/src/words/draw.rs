@@ -8,7 +8,7 @@ use gillacorn::{OMAPTable, Refusal};
 
 use super::clash::{self, Clash};
 use crate::answer::{Answer, Answered, Stop};
-use crate::translations::{Translation, Translations};
+use crate::translations::Translations;
 use crate::{arguments, input, json};
 
 pub fn command() -> Command {
@@ -38,22 +38,12 @@ pub fn run(matches: &ArgMatches) -> Answered {
     Ok(Box::new(match clash::find(table, window.clone())? {
         Some(clash) => Drawn::Nothing(clash),
         None if whole => Drawn::Whole(pieces(table, window)?),
-        None => Drawn::Addresses(Translations::of(addresses, |source| {
-            translate(table, source)
-        })?),
+        // The clash check has found the table in order.
+        None => Drawn::Addresses(Translations::of(table, addresses, false)?),
     }))
 }
 
 type Pieces = Vec<(Range<u32>, Option<Range<u32>>)>;
-
-/// The clash check has found the table in order: the search alone answers as the full lookup does.
-fn translate(table: OMAPTable<'_>, source: u32) -> Result<Translation, Refusal> {
-    Ok(Translation {
-        source,
-        target: table.quick_lookup(source)?.target_address,
-        probes: None,
-    })
-}
 
 /// The pieces of a window, with the holes between them.
 fn pieces(table: OMAPTable<'_>, window: Range<u32>) -> Result<Pieces, Refusal> {

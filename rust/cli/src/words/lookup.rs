@@ -1,10 +1,10 @@
 //! `lookup`: single translations, of any addresses.
 
 use clap::{Arg, ArgAction, ArgMatches, Command};
-use gillacorn::{OMAPTable, Refusal};
+use gillacorn::OMAPTable;
 
 use crate::answer::{Answer, Answered};
-use crate::translations::{Translation, Translations};
+use crate::translations::Translations;
 use crate::{arguments, input};
 
 const QUICK: &str = "quick";
@@ -36,26 +36,12 @@ pub fn run(matches: &ArgMatches) -> Answered {
     let addresses = input::addresses(asked)?;
     let bytes = input::read(name)?;
     let table = OMAPTable::new(&bytes);
-    let translate = if matches.get_flag(QUICK) { quick } else { full };
-    let found = Translations::of(addresses, |address| translate(table, address))?;
-    Ok(Box::new(found))
-}
-
-fn full(table: OMAPTable<'_>, source: u32) -> Result<Translation, Refusal> {
-    Ok(Translation {
-        source,
-        target: table.lookup(source)?,
-        probes: None,
-    })
-}
-
-fn quick(table: OMAPTable<'_>, source: u32) -> Result<Translation, Refusal> {
-    let found = table.quick_lookup(source)?;
-    Ok(Translation {
-        source,
-        target: found.target_address,
-        probes: Some(found.probes),
-    })
+    let quick = matches.get_flag(QUICK);
+    if !quick {
+        // Once is enough: the order is that of these bytes. Address 0 itself is never refused.
+        table.lookup(0)?;
+    }
+    Ok(Box::new(Translations::of(table, addresses, quick)?))
 }
 
 impl Answer for Translations {
