@@ -7,11 +7,10 @@ use native.Mathlib.Omega.{arith}
 use mathlib.Core.Bool.{Bool, true, false, cond}
 use mathlib.Core.List.{List}
 use lib.ListN.{length}
-use lib.Dec.{leb, eqb}
+use lib.Dec.{leb}
 use borrow.Author.Tests.{eq-eqb, ne-eqb}
 use Rattle.lent.specs.Order.{keyAt}
-use Rattle.lent.specs.Search.{Run, middle, after, before, probed, halved, whole, ended, binarySearch}
-use Rattle.lent.specs.declared.Searched.{Searched}
+use Rattle.lent.specs.Search.{Run, middle, probed, halved, ended, binarySearch}
 
 module _ (w : ℕ) (s : List ℕ) (a : ℕ) where
   halved-empty : (m : ℕ) (r : Run) → r .size ≡ 0 → halved w s a m r ≡ r

@@ -4,7 +4,7 @@
 --   `quick-order`     it never gives refusal 3
 -- Assumes nothing.
 use mathlib.Core.Path.{_≡_, refl, sym, ap, _∙_}
-use Prim.Native.Nat.{ℕ, zero, suc, _/_, _%_, _≤_, _<_}
+use Prim.Native.Nat.{ℕ, _/_, _%_, _≤_}
 use native.Mathlib.Omega.{arith}
 use mathlib.Core.Bool.{Bool, true, false, cond}
 use mathlib.Core.List.{List}
@@ -13,12 +13,11 @@ use lib.ListN.{length}
 use lib.Dec.{leb, eqb}
 use Rattle.lent.specs.Paper.{Told, value, nothing, refused, firstOf, unless, fitted}
 use Rattle.lent.specs.Table.{omapTable, omapShape, shapeFault}
-use Rattle.lent.specs.Order.{rising, keys, tableFault, omapFault}
+use Rattle.lent.specs.Order.{rising, keys, tableFault}
 use Rattle.lent.specs.Search.{binarySearch}
-use Rattle.lent.specs.declared.Searched.{Searched}
 use Rattle.lent.proofs.Search.{few-probes}
 use Rattle.lent.proofs.Shaped.{at-most}
-use Rattle.omap.specs.Records.{moved, holderOf, records, single}
+use Rattle.omap.specs.Records.{moved, single}
 use Rattle.omap.specs.Lookup.{lookupSpec}
 use Rattle.omap.specs.Quick.{Probed, reported, recordBefore, answeredAt, quickSpec, withoutProbes}
 use Rattle.omap.proofs.Lookups.{holder}
