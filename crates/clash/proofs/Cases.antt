@@ -11,10 +11,11 @@ use Rattle.lent.specs.Le.{leAt}
 use Rattle.lent.specs.Paper.{Told, value, nothing, refused, andThen}
 use Rattle.lent.specs.Table.{listed, shapeFault}
 use Rattle.lent.specs.Order.{risingAfter, rising, tableFault, lastAt}
+use Rattle.lent.specs.Room.{roomFor}
 use Rattle.omap.specs.Records.{records, holderOf, moved, single}
 use Rattle.omap.specs.Lookup.{lookupSpec}
 use Rattle.omap.specs.Window.{nextOf, pieceOf, pieces}
-use Rattle.omap.specs.Output.{besideStart, fits, allFit, sumFault, windowFault, flat, roomFor, windowSpec, windowOut}
+use Rattle.omap.specs.Output.{besideStart, fits, allFit, sumFault, windowFault, flat, windowSpec, windowOut}
 use Rattle.omap.specs.Expand.{total}
 use Rattle.omap.proofs.Cases as omap
 use Rattle.clash.specs.Clash.{Pair, Sources, one, two, pairedOr, leastTwo, clashSpec, backSpec}

@@ -1,6 +1,6 @@
 -- What the face shows of windows and cursors.
 use Rattle.lent.specs.Paper.{Told, value, nothing, refused}
-use Rattle.omap.specs.Output.{Window, counted, refusedAs, refusedFor}
+use Rattle.lent.specs.Room.{Written, counted, refusedAs, refusedFor}
 use Rattle.omap.specs.Step.{Stepped, piece, done, refusedAt}
 use Rattle.omap.specs.declared.cursor.Cursor.{Cursor}
 use Rattle.gillacorn.specs.declared.windows.PiecesAnswer.{PiecesAnswer}
@@ -8,7 +8,7 @@ use Rattle.gillacorn.specs.declared.windows.CursorAnswer.{CursorAnswer}
 use Rattle.gillacorn.specs.declared.windows.StepAnswer.{StepAnswer}
 
 -- the number of pieces; with a refusal that tells it, the number needed
-abbrev pub piecesAnswer : Window → PiecesAnswer
+abbrev pub piecesAnswer : Written → PiecesAnswer
 piecesAnswer (counted n) = record { code = 0; pieces = n }
 piecesAnswer (refusedAs k) = record { code = k; pieces = 0 }
 piecesAnswer (refusedFor k n) = record { code = k; pieces = n }

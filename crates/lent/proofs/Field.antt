@@ -20,7 +20,7 @@ unfolding leAt
 below zero s at b = omega (arith, pow-zero 256)
 below (suc w) s at b = omega (arith, below w s (suc at) b, b at, pow-suc 256 w)
 
-add-three : (n : ℕ) → n + 3 ≡ suc (suc (suc n))
+pub add-three : (n : ℕ) → n + 3 ≡ suc (suc (suc n))
 add-three n = omega arith
 
 -- a field as a flat sum of its bytes

@@ -8,3 +8,5 @@ pub mod Logic
 pub mod Answers
 pub mod Determined
 pub mod Shaped
+pub mod Wrote
+pub mod Encoded

@@ -1,9 +1,10 @@
--- Words on optional values, lists, numbers and bits that more than one crate uses.
+-- Words on optional values, lists, texts and bits that more than one crate uses.
 use Prim.Native.Nat.{ℕ, _/_, _%_}
+use Prim.Native.Char.{code}
+use Prim.Native.String.{String, [] as empty, _∷_ as _∷ˢ_}
 use mathlib.Core.Bool.{Bool}
-use mathlib.Core.List.{List, _∷_, _++_}
+use mathlib.Core.List.{List, [], _∷_}
 use mathlib.Core.Option.{Option, none, some}
-use lib.ListN.{length, drop}
 use lib.Dec.{eqb}
 
 -- the first value, or else the second
@@ -16,9 +17,10 @@ unfoldable pub put : {A : Type 0} → Option A → List A → List A
 put none l = l
 put (some p) l = p ∷ l
 
--- entries at the front of lent memory, and the rest of it as it was
-abbrev pub writtenOver : {A : Type 0} → List A → List A → List A
-writtenOver entries out = entries ++ drop (length entries) out
+-- the bytes of a quoted text
+abbrev pub ascii : String → List ℕ
+ascii empty = []
+ascii (c ∷ˢ s) = code c ∷ ascii s
 
 -- the bit that the number b has alone is set in x
 abbrev pub isSet : ℕ → ℕ → Bool

@@ -1,5 +1,9 @@
 // Tables in lent bytes: their little-endian fields, the refusals 1, 2 and 3 that a table gives, and the search by halving.
 // Everything above decodes through this crate; nothing else knows of bytes.
+mod output;
+
+pub use output::put_bytes;
+pub use output::put_u32;
 ghost use mathlib.Core.Path.{_≡_};
 ghost use mathlib.Core.Bool.{cond};
 ghost use Prim.Native.Nat.{_+_, _≤_, _<_, min, max};
@@ -30,6 +34,15 @@ pub const SHORT: u32 = 5;
 
 // 6: a piece begins before its record's source.
 pub const EARLY: u32 = 6;
+
+// 8: a file is no bundle.
+pub const NOT_A_BUNDLE: u32 = 8;
+
+// 9: a bundle has another version.
+pub const OTHER_VERSION: u32 = 9;
+
+// 10: the parts of a bundle break its layout.
+pub const LAYOUT: u32 = 10;
 
 // Document 01's tables: the bytes of a record, and the most records.
 pub const OMAP: usize = 8;

@@ -11,11 +11,12 @@ use Rattle.lent.specs.Le.{leAt}
 use Rattle.lent.specs.Paper.{Told, value, nothing, refused, andThen}
 use Rattle.lent.specs.Table.{listed, shapeFault}
 use Rattle.lent.specs.Order.{risingAfter, rising, tableFault, lastAt}
+use Rattle.lent.specs.Room.{Written, counted, refusedAs, refusedFor, roomFor}
 use Rattle.omap.specs.Records.{records, holderOf, moved, single}
 use Rattle.omap.specs.Lookup.{lookupSpec}
 use Rattle.omap.specs.Window.{nextOf, pieceOf, pieces, windowPieces}
-use Rattle.omap.specs.Output.{besideStart, fits, allFit, sumFault, windowFault, flat, Window, counted, refusedAs}
-use Rattle.omap.specs.Output.{refusedFor, roomFor, windowSpec, windowOut}
+use Rattle.omap.specs.Output.{besideStart, fits, allFit, sumFault, windowFault, flat}
+use Rattle.omap.specs.Output.{windowSpec, windowOut}
 use Rattle.omap.specs.Expand.{total}
 
 -- 1000→5000, 1100→0, 1200→4000, 1300→5080
@@ -41,7 +42,7 @@ pub data Case : Type 0 where
   addresses : List ℕ → ℕ → ℕ → Case
 
 -- a window's answer: the number of its pieces, and what stands in the output
-abbrev pub windowAnswer : Window → List ℕ → Told (List ℕ)
+abbrev pub windowAnswer : Written → List ℕ → Told (List ℕ)
 windowAnswer (counted n) out = value (n ∷ out)
 windowAnswer (refusedAs n) out = refused n
 windowAnswer (refusedFor n k) out = refused n

@@ -11,15 +11,16 @@ use mathlib.Core.Option.{Option, none, some}
 use lib.ListN.{length, drop}
 use lib.Dec.{leb}
 use borrow.Author.Tests.{le-leb, leb-true}
-use Rattle.lent.specs.Words.{put, writtenOver}
+use Rattle.lent.specs.Words.{put}
 use Rattle.lent.specs.Order.{omapFault}
 use Rattle.lent.specs.Paper.{firstOf, unless, fitted}
+use Rattle.lent.specs.Room.{Written, counted, refusedFor, roomFor, unlessFault, outAfter, writtenOver}
 use Rattle.lent.proofs.Logic.{and-left, and-right}
 use Rattle.omap.specs.Records.{records, single}
 use Rattle.omap.specs.Lookup.{lookupSpec, valueOf, lookedUp}
 use Rattle.omap.specs.Window.{Piece, pieces, windowPieces}
-use Rattle.omap.specs.Output.{besideStart, fits, allFit, sumFault, windowFault, flat, outAfter, Window, counted}
-use Rattle.omap.specs.Output.{refusedFor, unlessFault, roomFor, windowSpec, windowOut}
+use Rattle.omap.specs.Output.{besideStart, fits, allFit, sumFault, windowFault, flat}
+use Rattle.omap.specs.Output.{windowSpec, windowOut}
 use Rattle.omap.specs.Expand.{upFrom, range, mapMaybe, expand, expandEntries}
 use Rattle.omap.proofs.Pieces.{fits-target, first-fits, others-fit}
 use Rattle.omap.proofs.Expansion.{window-expansion}
@@ -99,7 +100,7 @@ module _ (s : List ℕ) (a b : ℕ) (out : List ℕ) (n : ℕ) (e : windowSpec t
 
   written : windowOut true s a b out ≡ writtenOver (flat (pieces a b (records s))) out
   unfolding windowOut
-  written = ap (λ (w : Window). outAfter w (flat (pieces a b (records s))) out) e
+  written = ap (λ (w : Written). outAfter w (flat (pieces a b (records s))) out) e
 
   told-lookups : mapMaybe (λ (x : ℕ). valueOf (fitted (single (records s) x))) (range a b) ≡ mapMaybe (lookedUp true s)
       (range a b)

@@ -9,12 +9,13 @@ use mathlib.Core.Option.{Option, none, some}
 use lib.ListN.{length}
 use lib.Dec.{eqb}
 use Rattle.lent.specs.Paper.{Told, value, nothing, refused}
+use Rattle.lent.specs.Room.{Written, counted, refusedAs, refusedFor}
 use Rattle.lent.specs.declared.Refusal.the-variants.{Length, Count, Order}
 use Rattle.lent.proofs.Answers.{refusal, one-answer}
 use Rattle.omap.specs.Records.{Entry}
 use Rattle.omap.specs.Lookup.{toldRecorded, recordSpec, toldLooked, lookupSpec}
 use Rattle.omap.specs.Quick.{Probed, toldQuick, quickSpec}
-use Rattle.omap.specs.Output.{toldCounted, countSpec, Window, counted, refusedAs, refusedFor, toldWindowed}
+use Rattle.omap.specs.Output.{toldCounted, countSpec, toldWindowed}
 use Rattle.omap.specs.Output.{windowSpec, windowOut}
 use Rattle.omap.specs.Step.{toldStarted, startSpec, Stepped, piece, done, refusedAt, toldStep, stepSpec}
 use Rattle.omap.specs.declared.Recorded.{Recorded}
@@ -107,7 +108,7 @@ pub one-count : (present : Bool) (s : List ℕ) (a b : ℕ) (r q : Counted) → 
     → toldCounted q ≡ countSpec present s a b → r ≡ q
 one-count present s a b = one-answer toldCounted countedBack counted-back (countSpec present s a b)
 
-abbrev windowedBack : Window → Windowed
+abbrev windowedBack : Written → Windowed
 windowedBack (counted n) = windowed.Pieces n
 windowedBack (refusedAs n) = cond (eqb n 4) windowed.TooLarge (windowed.Refused (refusal n))
 windowedBack (refusedFor n k) = windowed.Short k

@@ -3,14 +3,14 @@
 -- Assumes nothing.
 use mathlib.Core.Path.{_≡_, refl, ap, _∙_}
 use Prim.Native.Nat.{ℕ, _+_, _≤_}
-use native.Mathlib.Nat.{zero-add}
 use native.Mathlib.Numerals.{add-one, add-two}
 use native.Mathlib.Omega.{arith}
 use mathlib.Core.Bool.{Bool, true}
-use mathlib.Core.List.{List, [], _∷_, _++_}
-use lib.ListN.{length, drop, set, length-set}
-use lib.Seq.{sets, sets-eq}
-use Rattle.lent.specs.Words.{writtenOver}
+use mathlib.Core.List.{List, [], _∷_}
+use lib.ListN.{length, set, length-set}
+use lib.Seq.{sets}
+use Rattle.lent.specs.Room.{writtenOver}
+use Rattle.lent.proofs.Wrote.{front}
 use Rattle.omap.specs.Window.{Piece, windowPieces}
 use Rattle.omap.specs.Output.{besideStart, fits, allFit, flat}
 use Rattle.omap.specs.Walk.{left, Found}
@@ -22,9 +22,6 @@ pub record Filling (present : Bool) (s : List ℕ) (a b : ℕ) (out₀ out : Lis
   pub room : k + length (flat (left present s a b i)) ≤ length out
   pub more : sets out k (flat (left present s a b i)) ≡ writtenOver (flat (windowPieces present s a b)) out₀
 
-pub start : (vs out : List ℕ) → length vs ≤ length out → sets out 0 vs ≡ writtenOver vs out
-start vs out h = sets-eq vs out 0 (omega arith) ∙ ap (λ (k : ℕ). vs ++ drop k out) (zero-add (length vs))
-
 pub filling-first : (present : Bool) (s : List ℕ) (a b : ℕ) (out : List ℕ) (i : ℕ)
     → windowPieces present s a b ≡ left present s a b i
     → allFit (windowPieces present s a b) ≡ true → length (flat (windowPieces present s a b)) ≤ length out
@@ -33,7 +30,7 @@ filling-first present s a b out i e f h = record {
   kept = refl;
   fit = rw e at f;
   room = rw (← e) (omega arith);
-  more = rw (← e) (start (flat (windowPieces present s a b)) out h);
+  more = rw (← e) (front (flat (windowPieces present s a b)) out h);
 }
 
 module _ (present : Bool) (s : List ℕ) (a b : ℕ) (out₀ out : List ℕ) (i k : ℕ)

@@ -10,9 +10,10 @@ use lib.ListN.{length}
 use borrow.Author.Tests.{le-leb, lt-leb}
 use Rattle.lent.specs.Order.{omapFault}
 use Rattle.lent.specs.Paper.{Told, value, refused, firstOf, unless}
+use Rattle.lent.specs.Room.{Written, counted, refusedAs, refusedFor, roomFor, unlessFault, outAfter}
 use Rattle.omap.specs.Window.{Piece, windowPieces}
-use Rattle.omap.specs.Output.{allFit, sumFault, markedFault, windowFault, countSpec, flat, outAfter, Window}
-use Rattle.omap.specs.Output.{counted, refusedAs, refusedFor, unlessFault, roomFor, windowSpec, windowOut}
+use Rattle.omap.specs.Output.{allFit, sumFault, markedFault, windowFault, countSpec, flat}
+use Rattle.omap.specs.Output.{windowSpec, windowOut}
 use Rattle.omap.specs.Walk.{InOrder}
 use Rattle.omap.proofs.Last.{in-order}
 
@@ -106,10 +107,10 @@ module _ (present : Bool) (s : List ℕ) (a b : ℕ) where
     answer-pieces h = rw (← (c .faultless), ← (c .number), le-leb n room h)
 
   module _ (out : List ℕ) where
-    abbrev pub Answer : Window → List ℕ → Type 0
+    abbrev pub Answer : Written → List ℕ → Type 0
     Answer r last = (r ≡ windowSpec present s a b (length out / 2)) × (last ≡ windowOut present s a b out)
 
-    pub answered : (w : Window) → w ≡ windowSpec present s a b (length out / 2) → (last : List ℕ)
+    pub answered : (w : Written) → w ≡ windowSpec present s a b (length out / 2) → (last : List ℕ)
         → last ≡ outAfter w (flat (windowPieces present s a b)) out → Answer w last
     unfolding windowOut
-    answered w e last q = (e, q ∙ ap (λ (v : Window). outAfter v (flat (windowPieces present s a b)) out) e)
+    answered w e last q = (e, q ∙ ap (λ (v : Written). outAfter v (flat (windowPieces present s a b)) out) e)

@@ -7,7 +7,7 @@ use lib.ListN.{length}
 use lib.Dec.{leb}
 use Rattle.lent.specs.Order.{omapFault}
 use Rattle.lent.specs.Paper.{Told, value, refused, firstOf, unless, number}
-use Rattle.lent.specs.Words.{writtenOver}
+use Rattle.lent.specs.Room.{Written, counted, refusedAs, refusedFor, roomFor, unlessFault, outAfter}
 use Rattle.omap.specs.Window.{Piece, windowPieces}
 use Rattle.omap.specs.declared.windows.Counted.{Counted}
 use Rattle.omap.specs.declared.windows.Counted.the-variants as count
@@ -52,37 +52,16 @@ unfoldable pub flat : List Piece → List ℕ
 flat [] = []
 flat (p ∷ l) = p .to ∷ (besideStart p ∷ flat l)
 
--- an answer about a window: the number of its pieces; a refusal; a refusal that tells the number of entries needed
-pub data Window : Type 0 where
-  counted : ℕ → Window
-  refusedAs : ℕ → Window
-  refusedFor : ℕ → ℕ → Window
-
-abbrev pub toldWindowed : Windowed → Window
+abbrev pub toldWindowed : Windowed → Written
 toldWindowed (windowed.Pieces n) = counted n
 toldWindowed (windowed.Refused why) = refusedAs (number why)
 toldWindowed windowed.TooLarge = refusedAs 4
 toldWindowed (windowed.Short n) = refusedFor 5 n
 
--- n pieces; or 5, and the number needed, if there are more than room for entries
-unfoldable pub roomFor : ℕ → ℕ → Window
-roomFor n room = cond (leb n room) (counted n) (refusedFor 5 n)
-
--- a refusal of the window, if it gives one, comes first
-abbrev pub unlessFault : Option ℕ → Window → Window
-unlessFault none w = w
-unlessFault (some n) w = refusedAs n
-
 -- the whole-window call, with room for so many entries: 1, 2, 3, 4, 5 or the number of pieces
-unfoldable pub windowSpec : Bool → List ℕ → ℕ → ℕ → ℕ → Window
+unfoldable pub windowSpec : Bool → List ℕ → ℕ → ℕ → ℕ → Written
 windowSpec present s a b room = unlessFault (windowFault present s a b)
     (roomFor (length (windowPieces present s a b)) room)
-
--- only a call that is not refused writes
-abbrev pub outAfter : {A : Type 0} → Window → List A → List A → List A
-outAfter (counted n) entries out = writtenOver entries out
-outAfter (refusedAs n) entries out = out
-outAfter (refusedFor n k) entries out = out
 
 -- what the call leaves in an output of u32 places, two to an entry
 unfoldable pub windowOut : Bool → List ℕ → ℕ → ℕ → List ℕ → List ℕ

@@ -4,7 +4,7 @@ ghost use mathlib.Core.Bool.{true};
 ghost use Prim.Native.Nat.{_/_, _≤_};
 ghost use lib.ListN.{length};
 ghost use Rattle.lent.specs.Paper.{toldChecked, unless, value};
-ghost use Rattle.lent.specs.Words.{writtenOver};
+ghost use Rattle.lent.specs.Room.{writtenOver};
 ghost use Rattle.omap.specs.Window.{windowPieces};
 ghost use Rattle.omap.specs.Output.{allFit, sumFault, markedFault, toldCounted, countSpec, flat, toldWindowed, windowSpec, windowOut};
 ghost use Rattle.omap.specs.Walk.{InOrder};

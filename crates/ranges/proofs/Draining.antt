@@ -9,7 +9,7 @@ use mathlib.Core.Option.{Option, none, some}
 use lib.ListN.{length}
 use Rattle.lent.specs.Order.{omapFault}
 use Rattle.lent.specs.Paper.{Told, value, nothing, refused, unless, andThen}
-use Rattle.lent.specs.Words.{writtenOver}
+use Rattle.lent.specs.Room.{writtenOver}
 use Rattle.omap.specs.Records.{records}
 use Rattle.omap.specs.Window.{windowPieces}
 use Rattle.omap.specs.declared.walk.Piece.{Piece as MappedPiece}

@@ -6,7 +6,7 @@ use native.Mathlib.Omega.{arith}
 use mathlib.Core.Bool.{Bool, true}
 use mathlib.Core.List.{List, _∷_, map}
 use lib.ListN.{length, length-map}
-use Rattle.lent.specs.Words.{writtenOver}
+use Rattle.lent.specs.Room.{writtenOver}
 use Rattle.omap.specs.Window.{windowPieces}
 use Rattle.omap.specs.declared.walk.Piece.{Piece as MappedPiece}
 use Rattle.omap.specs.Walk.{left, Bounded, Found}

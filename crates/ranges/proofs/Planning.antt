@@ -6,11 +6,11 @@ use native.Mathlib.Omega.{arith}
 use mathlib.Core.Bool.{Bool}
 use mathlib.Core.List.{List, []}
 use lib.ListN.{length}
-use Rattle.lent.specs.Words.{writtenOver}
+use Rattle.lent.specs.Room.{Written, counted, refusedAs, refusedFor, outAfter, writtenOver}
 use Rattle.omap.specs.Window.{windowPieces}
 use Rattle.omap.specs.declared.walk.Piece.{Piece as MappedPiece}
 use Rattle.omap.specs.Walk.{Spans}
-use Rattle.omap.specs.Output.{Window, counted, refusedAs, refusedFor, toldWindowed, outAfter, windowSpec}
+use Rattle.omap.specs.Output.{toldWindowed, windowSpec}
 use Rattle.omap.specs.declared.walk.Span.{Span}
 use Rattle.omap.specs.declared.windows.Windowed.{Windowed}
 use Rattle.omap.specs.declared.windows.Windowed.the-variants as windowed
@@ -18,7 +18,7 @@ use Rattle.omap.proofs.Outputs.{Counts, answer-pieces}
 use Rattle.ranges.specs.Inside.{ifCounted, Planned}
 
 -- so many pieces are written with the answer w
-abbrev size : Bool → List ℕ → ℕ → ℕ → Window → ℕ
+abbrev size : Bool → List ℕ → ℕ → ℕ → Written → ℕ
 size present s a b w = length (ifCounted w (windowPieces present s a b))
 
 module _ {present : Bool} {s : List ℕ} {a b room : ℕ} where
@@ -41,14 +41,14 @@ module _ {present : Bool} {s : List ℕ} {a b room : ℕ} where
       record { answers = e; number = m; enough = h; fit = λ _. c .fit; spans = λ _. q }
 
 -- what is written is nothing, or all
-pub all-written : (w : Window) (l : List MappedPiece) → 0 < length (ifCounted w l) → ifCounted w l ≡ l
+pub all-written : (w : Written) (l : List MappedPiece) → 0 < length (ifCounted w l) → ifCounted w l ≡ l
 all-written (counted n) l h = refl
 all-written (refusedAs n) l h = absurd (omega arith)
 all-written (refusedFor n k) l h = absurd (omega arith)
 
 -- the pieces to write, as entries, give the whole output
 pub entries-out : {A : Type 0} (entries : List MappedPiece → List A) → entries [] ≡ []
-    → (w : Window) (l : List MappedPiece) (out : List A) → writtenOver (entries (ifCounted w l)) out ≡ outAfter w
+    → (w : Written) (l : List MappedPiece) (out : List A) → writtenOver (entries (ifCounted w l)) out ≡ outAfter w
     (entries l) out
 entries-out entries e (counted n) l out = refl
 entries-out entries e (refusedAs n) l out = rw e

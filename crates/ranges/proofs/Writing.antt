@@ -3,15 +3,15 @@
 -- Assumes nothing.
 use mathlib.Core.Path.{_≡_, refl, sym, ap, _∙_}
 use Prim.Native.Nat.{ℕ, _+_, _-_, _≤_, _<_}
-use native.Mathlib.Nat.{zero-add}
 use native.Mathlib.Numerals.{add-one, add-two}
 use native.Mathlib.Omega.{arith}
-use mathlib.Core.List.{List, [], _∷_, _++_}
+use mathlib.Core.List.{List, [], _∷_}
 use mathlib.Core.WellFounded.{WellFounded, InvImage·wf}
 use lib.WfN.{Nat·lt-wfRel}
-use lib.ListN.{length, drop, set, length-set}
-use lib.Seq.{sets, sets-eq}
-use Rattle.lent.specs.Words.{writtenOver}
+use lib.ListN.{length, set, length-set}
+use lib.Seq.{sets}
+use Rattle.lent.specs.Room.{writtenOver}
+use Rattle.lent.proofs.Wrote.{front}
 
 -- where the loop stands: k of n entries are in the output, and `at` gives the others, if there are any
 pub record Writing {A S : Type 0} (Gives : S → List A → Type 0) (out₀ final : List A) (n : ℕ) : Type 0 where
@@ -23,9 +23,6 @@ pub record Writing {A S : Type 0} (Gives : S → List A → Type 0) (out₀ fina
   pub kept : length out ≡ length out₀
   pub number : k + length left ≡ n
   pub goal : sets out k left ≡ final
-
-pub front : {A : Type 0} (vs out : List A) → length vs ≤ length out → sets out 0 vs ≡ writtenOver vs out
-front vs out h = sets-eq vs out 0 (omega arith) ∙ ap (λ (k : ℕ). vs ++ drop k out) (zero-add (length vs))
 
 none-left : {A : Type 0} (out : List A) (k : ℕ) (l final : List A) → length l ≡ 0 → sets out k l ≡ final → out ≡ final
 none-left out k [] final e q = q

@@ -6,10 +6,11 @@ use mathlib.Core.Bool.{Bool, true}
 use mathlib.Core.List.{List, [], _∷_, map}
 use lib.ListN.{length}
 use Rattle.lent.specs.Paper.{value}
+use Rattle.lent.specs.Room.{Written, counted, refusedAs, refusedFor}
 use Rattle.omap.specs.Window.{windowPieces}
 use Rattle.omap.specs.declared.walk.Piece.{Piece as MappedPiece}
 use Rattle.omap.specs.Walk.{left, Bounded, Spans}
-use Rattle.omap.specs.Output.{allFit, flat, Window, counted, refusedAs, refusedFor, toldWindowed, windowSpec}
+use Rattle.omap.specs.Output.{allFit, flat, toldWindowed, windowSpec}
 use Rattle.omap.specs.Step.{Stepped, piece, done, refusedAt}
 use Rattle.omap.specs.Yields.{yields}
 use Rattle.omap.specs.declared.walk.Span.{Span}
@@ -21,7 +22,7 @@ use Rattle.ranges.specs.declared.reader.TakenPiece.{TakenPiece}
 use Rattle.ranges.specs.ListOut.{asPiece}
 
 -- what a call with this answer writes: all, or nothing
-abbrev pub ifCounted : Window → List MappedPiece → List MappedPiece
+abbrev pub ifCounted : Written → List MappedPiece → List MappedPiece
 ifCounted (counted n) l = l
 ifCounted (refusedAs n) l = []
 ifCounted (refusedFor n k) l = []

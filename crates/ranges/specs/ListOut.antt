@@ -3,9 +3,10 @@ use Prim.Native.Nat.{ℕ}
 use mathlib.Core.Bool.{Bool}
 use mathlib.Core.List.{List, map}
 use lib.ListN.{length}
+use Rattle.lent.specs.Room.{outAfter}
 use Rattle.omap.specs.Window.{windowPieces}
 use Rattle.omap.specs.declared.walk.Piece.{Piece as MappedPiece}
-use Rattle.omap.specs.Output.{besideStart, outAfter, windowSpec}
+use Rattle.omap.specs.Output.{besideStart, windowSpec}
 use Rattle.ranges.specs.declared.Piece.{Piece}
 
 -- a piece's start, and what it shows beside it

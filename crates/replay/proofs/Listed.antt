@@ -7,9 +7,10 @@ use native.Mathlib.Omega.{arith}
 use mathlib.Core.Bool.{Bool}
 use mathlib.Core.List.{List, [], _∷_, _++_, map}
 use lib.ListN.{length, drop}
+use Rattle.lent.specs.Room.{Written, counted, refusedAs, refusedFor, outAfter}
 use Rattle.omap.specs.declared.walk.Piece as walk
 use Rattle.omap.specs.Window.{windowPieces}
-use Rattle.omap.specs.Output.{flat, Window, counted, refusedAs, refusedFor, outAfter, windowSpec, windowOut}
+use Rattle.omap.specs.Output.{flat, windowSpec, windowOut}
 use Rattle.ranges.specs.ListOut.{asPiece, listOut}
 use Rattle.ranges.specs.declared.Piece.{Piece}
 
@@ -44,7 +45,7 @@ pairs-flat [] = refl
 pairs-flat (p ∷ l) = rw (pairs-flat l)
 
 -- what a call leaves in records, as pairs, is what it leaves in their places
-pairs-after : (w : Window) (l : List walk.Piece) (out : List Piece) → pairs
+pairs-after : (w : Written) (l : List walk.Piece) (out : List Piece) → pairs
     (outAfter w (map asPiece l) out) ≡ outAfter w (flat l) (pairs out)
 pairs-after (counted n) l out =
     let e : length (map asPiece l) + length (map asPiece l) ≡ length (flat l) = sym (pairs-length (map asPiece l))

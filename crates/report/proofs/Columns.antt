@@ -3,9 +3,9 @@
 use mathlib.Core.Path.{_≡_, refl, ap, _∙_, subst}
 use Prim.Native.Nat.{ℕ}
 use mathlib.Core.List.{List, [], _∷_, _++_, append-assoc}
-use Rattle.report.specs.Text.{Wrote}
+use Rattle.lent.specs.Room.{Wrote}
+use Rattle.lent.proofs.Wrote.{wrote-both}
 use Rattle.report.specs.Frames.{columns}
-use Rattle.report.proofs.Writing.{wrote-both}
 
 columns-append : (a b : List (List ℕ)) → columns a ++ columns b ≡ columns (a ++ b)
 columns-append [] b = refl

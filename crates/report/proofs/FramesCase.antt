@@ -6,11 +6,12 @@ use Prim.Native.Nat.{ℕ}
 use mathlib.Core.List.{List, [], _∷_, _++_}
 use Rattle.lent.specs.Le.{leAt}
 use Rattle.lent.specs.Table.{listed, shapeFault}
+use Rattle.lent.specs.Words.{ascii}
 use Rattle.framedata.specs.Attributes.{attributes}
 use Rattle.framedata.specs.Frame.{fromOld, fromNew}
 use Rattle.framedata.specs.Step.{lesser}
 use Rattle.framedata.specs.Merge.{merge, allFit}
-use Rattle.report.specs.Text.{ascii, line, glyph, digits, placesIn, lines}
+use Rattle.report.specs.Text.{line, glyph, digits, placesIn, lines}
 use Rattle.report.specs.Frames.{typeName, frameLine, heading, framesOrRefusal, framesText}
 
 -- 80 bytes of old frames at 100, 180, 200, 300, 400 (hex); new ones at 200 and ABCD

@@ -9,16 +9,18 @@ use lib.ListN.{length, take, drop, length-map}
 use borrow.Author.Tests.{le-leb, lt-leb}
 use Rattle.lent.specs.Le.{leAt}
 use Rattle.lent.specs.Paper.{Told, value, nothing, refused}
+use Rattle.lent.specs.Room.{Wrote}
+use Rattle.lent.proofs.Wrote.{Left, left-first, left-last, left-more}
 use Rattle.framedata.specs.Records.{olds, news}
 use Rattle.framedata.specs.Frame.{Frame}
 use Rattle.framedata.specs.Step.{Pick, atStart, frame}
 use Rattle.framedata.specs.Merge.{merge, left, allFit}
 use Rattle.framedata.proofs.Iteration.{from-start}
 use Rattle.framedata.specs.declared.cursor.FrameCursor.{FrameCursor}
-use Rattle.report.specs.Text.{lines, refusedText, Wrote}
+use Rattle.report.specs.Text.{lines, refusedText}
 use Rattle.report.specs.Frames.{frameLine, frames, framesOrRefusal, framesPrinted, framesText}
 use Rattle.report.specs.Frames.{FrameCount, howMany}
-use Rattle.report.proofs.Writing.{right, Left, left-first, left-last, left-more}
+use Rattle.report.proofs.Writing.{right}
 use Rattle.report.proofs.Yields.{Yields, all-fit, leftOver, few-left}
 
 -- the lines of the frames that are left at a cursor, and room for them

@@ -3,14 +3,15 @@
 use mathlib.Core.Path.{_≡_, refl}
 use Prim.Native.Nat.{ℕ}
 use mathlib.Core.List.{List, [], _∷_, _++_}
-use Rattle.lent.specs.Words.{put}
+use Rattle.lent.specs.Words.{put, ascii}
 use Rattle.lent.specs.Le.{leAt}
 use Rattle.lent.specs.Table.{listed, shapeFault}
 use Rattle.lent.specs.Order.{risingAfter, rising, tableFault}
+use Rattle.lent.specs.Room.{roomFor}
 use Rattle.omap.specs.Records.{records}
 use Rattle.omap.specs.Window.{nextOf, pieceOf, pieces}
-use Rattle.omap.specs.Output.{besideStart, fits, allFit, sumFault, windowFault, roomFor, windowSpec}
-use Rattle.report.specs.Text.{ascii, line, glyph, digits, placesIn, lines}
+use Rattle.omap.specs.Output.{besideStart, fits, allFit, sumFault, windowFault, windowSpec}
+use Rattle.report.specs.Text.{line, glyph, digits, placesIn, lines}
 use Rattle.report.specs.Window.{tableText, windowText}
 
 -- 1000→5000, 1100→0, 1200→4000, 1300→5080

@@ -9,17 +9,17 @@ use mathlib.Core.Option.{Option, none, some}
 use lib.ListN.{length, drop, getD, take, length-append}
 use lib.Seq.{drop-cons, take-at, length-take-le}
 use lib.Dec.{leb}
-use Rattle.lent.specs.Words.{put}
+use Rattle.lent.specs.Room.{Written, counted, refusedAs, refusedFor, roomFor, unlessFault}
+use Rattle.lent.specs.Words.{put, ascii}
 use borrow.Author.Tests.{le-leb}
 use Rattle.lent.proofs.Place.{length-listed}
 use Rattle.omap.specs.Records.{Entry, entryAt, records}
 use Rattle.omap.specs.Window.{nextOf, pieceOf, pieces, windowPieces}
 use Rattle.omap.specs.declared.walk.Piece.{Piece}
-use Rattle.omap.specs.Output.{besideStart, flat, windowFault, Window, counted, refusedAs, refusedFor, roomFor}
-use Rattle.omap.specs.Output.{unlessFault}
+use Rattle.omap.specs.Output.{besideStart, flat, windowFault}
 use Rattle.omap.specs.Output.{windowSpec, windowOut}
 use Rattle.omap.proofs.Outputs.{length-flat}
-use Rattle.report.specs.Text.{ascii, digits, lines, numbered}
+use Rattle.report.specs.Text.{digits, lines, numbered}
 use Rattle.report.specs.Window.{pairLine, pieceLine, pairLines, windowPrinted, tableText}
 use Rattle.report.proofs.Writing.{length-digits}
 
@@ -117,10 +117,10 @@ module _ (s : List ℕ) (a b : ℕ) where
         never-for (windowFault true s a b) (length l) k (rw (le-leb (length l) room (omega (arith, few))) at e)
 
     -- so the text follows from the answer with that room
-    pub text-is : (w : Window) → w ≡ windowSpec true s a b room
+    pub text-is : (w : Written) → w ≡ windowSpec true s a b room
         → windowPrinted w (windowPieces true s a b) ≡ tableText a b s
     unfolding tableText
-    text-is w e = ap (λ (v : Window). windowPrinted v (windowPieces true s a b)) (e ∙ never-5)
+    text-is w e = ap (λ (v : Written). windowPrinted v (windowPieces true s a b)) (e ∙ never-5)
 
   -- where the pieces are counted, they stand at the front of the output
   pub written : (out : List ℕ) (n : ℕ) → counted n ≡ windowSpec true s a b (length out / 2)

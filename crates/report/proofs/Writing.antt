@@ -1,29 +1,21 @@
--- Texts written one after the other, and a number's digits written from the last one down.
+-- A whole text, and a number's digits written from the last one down.
 -- Assumes nothing.
 use mathlib.Core.Path.{_≡_, refl, sym, ap, _∙_}
 use mathlib.Core.Logic.{⊎-elim, _≢_}
 use Prim.Native.Nat.{ℕ, zero, suc, _+_, _-_, _/_, _%_, _^_, _≤_, _<_}
 use native.Mathlib.Nat.{add-zero, pow-suc}
-use native.Mathlib.Numerals.{add-one}
 use native.Mathlib.Omega.{arith}
 use mathlib.Core.List.{List, [], _∷_, _++_}
-use lib.ListN.{length, take, drop, set, getD, length-append, length-drop}
-use lib.Seq.{sets, set-comm, drop-cons, length-sets, take-all}
+use lib.ListN.{length, take, drop, set, length-append, length-drop}
+use lib.Seq.{sets, set-comm, length-sets, take-all}
 use borrow.Author.Tests.{lt-ltb, le-ltb, le-leb, lt-leb}
 use Rattle.lent.specs.Paper.{number}
+use Rattle.lent.specs.Room.{Wrote}
 use Rattle.lent.specs.declared.Refusal.{Refusal}
 use Rattle.lent.specs.declared.Refusal.the-variants.{Length, Count, Order}
 use Rattle.lent.proofs.Logic.{lt-or-le}
-use Rattle.omap.proofs.Filling.{start}
-use Rattle.report.specs.Text.{glyph, digits, placesIn, places, refusedText, inputText, Wrote, Printed}
-
--- two texts, one after the other
-pub sets-append : (out : List ℕ) (at : ℕ) (vs ws : List ℕ)
-    → sets out at (vs ++ ws) ≡ sets (sets out at vs) (at + length vs) ws
-sets-append out at [] ws = rw (add-zero at)
-sets-append out at (v ∷ vs) ws =
-    let e : suc at + length vs ≡ at + suc (length vs) = omega arith in
-    sets-append (set out at v) (suc at) vs ws ∙ ap (λ (k : ℕ). sets (sets (set out at v) (suc at) vs) k ws) e
+use Rattle.lent.proofs.Wrote.{front}
+use Rattle.report.specs.Text.{glyph, digits, placesIn, places, refusedText, inputText, Printed}
 
 -- the last byte of a text may be written first
 pub sets-last : (out : List ℕ) (at : ℕ) (vs : List ℕ) (v : ℕ)
@@ -36,47 +28,6 @@ sets-last out at (a ∷ vs) v =
     (set-comm out (at + suc (length vs)) at v a d ∙ ap (λ (k : ℕ). set (set out at a) k v) e)
     ∙ sets-last (set out at a) (suc at) vs v
 
--- a text, and then another
-pub wrote-both : {a b before middle after : List ℕ} {at r q : ℕ} → Wrote a before at r middle
-    → Wrote b middle r q after → Wrote (a ++ b) before at q after
-wrote-both {a} {b} {before} {middle} {after} {at} {r} {q} first second = record {
-  place = omega (arith, length-append a b);
-  bytes = second .bytes ∙ rw (first .bytes, first .place) (sym (sets-append before at a b));
-  room = let l = ap length (first .bytes) ∙ length-sets before at a in
-      omega (arith, first .place, second .room, length-append a b);
-}
-
--- A loop that writes a text: what is left of it, written onto the bytes as they are, gives the bytes as they will be.
-pub record Left (text before : List ℕ) (at : ℕ) (rest bytes : List ℕ) (k : ℕ) : Type 0 where
-  pub kept : length bytes ≡ length before
-  pub places-left : k + length rest ≡ at + length text
-  pub as-will-be : sets bytes k rest ≡ sets before at text
-
-pub left-first : (text before : List ℕ) (at : ℕ) → Left text before at text before at
-left-first text before at = record { kept = refl; places-left = refl; as-will-be = refl }
-
-pub left-last : {text before bytes : List ℕ} {at k : ℕ} → k ≤ length before → Left text before at [] bytes k
-    → Wrote text before at k bytes
-left-last {k = k} h w =
-    record { place = sym (add-zero k) ∙ w .places-left; bytes = w .as-will-be; room = omega (arith, w .places-left) }
-
--- the next part of the text, and what is left after it
-module _ {text before whole bytes : List ℕ} {at k : ℕ} (a rest : List ℕ) (w : Left text before at whole bytes k)
-    (e : whole ≡ a ++ rest) where
-  both-lengths : length whole ≡ length a + length rest
-  both-lengths = ap length e ∙ length-append a rest
-
-  pub left-room : at + length text ≤ length before → k + length a ≤ length bytes
-  left-room h = omega (arith, both-lengths, w .kept, w .places-left)
-
-  pub left-more : {r : ℕ} {after : List ℕ} → Wrote a bytes k r after → Left text before at rest after r
-  left-more v = record {
-    kept = ap length (v .bytes) ∙ length-sets bytes k a ∙ w .kept;
-    places-left = omega (arith, both-lengths, v .place, w .places-left);
-    as-will-be = rw (v .bytes, v .place)
-        (sym (sets-append bytes k a rest) ∙ ap (λ (l : List ℕ). sets bytes k l) (sym e) ∙ w .as-will-be);
-  }
-
 -- a whole text, written from the front on
 pub printed : {text before after : List ℕ} {r : ℕ} (room : ℕ) → room ≤ length before → Wrote text before 0 r after
     → Printed room text before r after
@@ -84,7 +35,7 @@ printed {text} {before} {after} {r} room h w =
     let enough : length text ≤ length before = omega (arith, w .room) in
     record {
       answer = rw (le-leb room (length before) h) (omega (arith, w .place));
-      bytes = rw (le-leb room (length before) h) (w .bytes ∙ start text before enough);
+      bytes = rw (le-leb room (length before) h) (w .bytes ∙ front text before enough);
       within = omega (arith, w .place, ap length (w .bytes) ∙ length-sets before 0 text);
     }
 
@@ -126,13 +77,6 @@ digit-less b (suc k) n out at h =
 -- the part of a slice from a place on
 pub part-from : (n : ℕ) (l : List ℕ) → take (length l - n) (drop n l) ≡ drop n l
 part-from n l = take-all (length l - n) (drop n l) (omega (arith, length-drop n l))
-
--- one byte of a word less to copy
-pub byte-less : (word out : List ℕ) (at i : ℕ) → i < length word
-    → sets (set out (at + i) (getD word i 0)) (at + (i + 1)) (drop (i + 1) word) ≡ sets out (at + i) (drop i word)
-byte-less word out at i h =
-    let e : at + (i + 1) ≡ suc (at + i) = omega arith in
-    rw (drop-cons word i 0 h, e, add-one)
 
 -- a number of digits that is large enough gives the same as any other
 same-places : (f g n : ℕ) → n ≤ f → n ≤ g → placesIn f n ≡ placesIn g n

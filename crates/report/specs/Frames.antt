@@ -9,12 +9,13 @@ use lib.ListN.{length, take, drop, replicate}
 use lib.Dec.{leb, eqb}
 use Rattle.lent.specs.Le.{leAt}
 use Rattle.lent.specs.Paper.{Told, value, nothing, refused, unless, number}
+use Rattle.lent.specs.Words.{ascii}
 use Rattle.framedata.specs.Records.{olds, news}
 use Rattle.framedata.specs.Frame.{Frame}
 use Rattle.framedata.specs.Tables.{shapeOfBoth}
 use Rattle.framedata.specs.Step.{frame}
 use Rattle.framedata.specs.Merge.{merge, allFit}
-use Rattle.report.specs.Text.{ascii, line, hex, numbered, lines, refusedText, inputText}
+use Rattle.report.specs.Text.{line, hex, numbered, lines, refusedText, inputText}
 use Rattle.report.specs.declared.frames.Tallied.{Tallied}
 use Rattle.report.specs.declared.frames.Tallied.the-variants as tallied
 

@@ -1,19 +1,13 @@
 -- Texts. A text is a list of bytes, in ASCII; each of its lines ends in a line feed.
 use Prim.Native.Nat.{ℕ, zero, suc, _+_, _-_, _/_, _%_, _≤_}
 use Prim.Native.Char.{code}
-use Prim.Native.String.{String, [] as empty, _∷_ as _∷ˢ_}
 use mathlib.Core.Path.{_≡_}
 use mathlib.Core.Bool.{cond}
 use mathlib.Core.List.{List, [], _∷_, _++_}
 use lib.ListN.{length}
-use lib.Seq.{sets}
 use lib.Dec.{ltb, leb}
-use Rattle.lent.specs.Words.{writtenOver}
-
--- the bytes of a quoted text
-abbrev pub ascii : String → List ℕ
-ascii empty = []
-ascii (c ∷ˢ s) = code c ∷ ascii s
+use Rattle.lent.specs.Room.{writtenOver}
+use Rattle.lent.specs.Words.{ascii}
 
 -- a text, and the end of its line
 abbrev pub line : List ℕ → List ℕ
@@ -62,12 +56,6 @@ refusedText n = numbered (ascii "refused ") n
 abbrev pub inputText : ℕ → List ℕ → List ℕ → List ℕ
 inputText least input text =
     cond (ltb (length input) least) (refusedText 1) (cond (leb (length input) 65536) text (refusedText 2))
-
--- a text is written over lent bytes from a place on, inside them, and the place after it is answered
-pub record Wrote (text before : List ℕ) (at r : ℕ) (after : List ℕ) : Type 0 where
-  pub place : r ≡ at + length text
-  pub bytes : after ≡ sets before at text
-  pub room : at + length text ≤ length before
 
 -- A whole text at the front of lent bytes, and its length as the answer. With less room than the largest text of its
 -- kind needs, the answer is 0 and the bytes are as they were.

@@ -4,10 +4,12 @@ use mathlib.Core.Bool.{true}
 use mathlib.Core.List.{List, [], _∷_, _++_}
 use lib.ListN.{length, drop}
 use Rattle.lent.specs.Le.{leAt}
+use Rattle.lent.specs.Room.{Written, counted, refusedAs, refusedFor}
+use Rattle.lent.specs.Words.{ascii}
 use Rattle.omap.specs.Window.{windowPieces}
 use Rattle.omap.specs.declared.walk.Piece.{Piece}
-use Rattle.omap.specs.Output.{besideStart, Window, counted, refusedAs, refusedFor, windowSpec}
-use Rattle.report.specs.Text.{ascii, line, hex, numbered, lines, refusedText, inputText}
+use Rattle.omap.specs.Output.{besideStart, windowSpec}
+use Rattle.report.specs.Text.{line, hex, numbered, lines, refusedText, inputText}
 
 -- two numbers of 32 bits as hex digits, one space between
 abbrev pub pairLine : ℕ → ℕ → List ℕ
@@ -18,7 +20,7 @@ abbrev pub pieceLine : Piece → List ℕ
 pieceLine p = pairLine (p .to) (besideStart p)
 
 -- the answer about a window: a line for each piece and their number, or the refusal alone
-abbrev pub windowPrinted : Window → List Piece → List ℕ
+abbrev pub windowPrinted : Written → List Piece → List ℕ
 windowPrinted (counted n) l = lines pieceLine l ++ numbered (ascii "pieces ") n
 windowPrinted (refusedAs n) l = refusedText n
 windowPrinted (refusedFor n k) l = refusedText n

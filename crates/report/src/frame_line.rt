@@ -3,17 +3,18 @@ ghost use mathlib.Core.Path.{_≡_};
 ghost use mathlib.Core.List.{_∷_, []};
 ghost use Prim.Native.Nat.{_+_, _≤_};
 ghost use lib.ListN.{length};
+ghost use Rattle.lent.specs.Room.{Wrote};
 ghost use Rattle.framedata.specs.Attributes.{typeNumber};
 ghost use Rattle.framedata.specs.Frame.{toldStack, toldProgram, toldFrame};
-ghost use Rattle.report.specs.Text.{line, Wrote};
+ghost use Rattle.report.specs.Text.{line};
 ghost use Rattle.report.specs.Frames.{padded, columns, typeName, optional, flag, flags};
 ghost use Rattle.report.specs.Frames.{sizeColumns, frameLine};
 use crate::text::hex;
-use crate::text::put;
 use framedata::FrameData;
 use framedata::FrameType;
 use framedata::Program;
 use framedata::StackSize;
+use lent::put_bytes;
 
 // The columns of the sizes.
 fn sizes(f: FrameData, out: &mut [u8], at: usize) -> usize
@@ -37,7 +38,7 @@ fn stack(size: StackSize, out: &mut [u8], at: usize) -> usize
 {
     match size {
         StackSize::Bytes(n) => hex(n as u64, 8, b" ", out, at),
-        StackSize::Nothing => put(b"-------- ", out, at),
+        StackSize::Nothing => put_bytes(b"-------- ", out, at),
     }
 }
 
@@ -49,7 +50,7 @@ fn program(string: Program, out: &mut [u8], at: usize) -> usize
 {
     match string {
         Program::At(n) => hex(n as u64, 8, b" ", out, at),
-        Program::Nothing => put(b"-------- ", out, at),
+        Program::Nothing => put_bytes(b"-------- ", out, at),
     }
 }
 
@@ -62,12 +63,12 @@ fn kind(ty: FrameType, out: &mut [u8], at: usize) -> usize
     ensures { λ r. ⌜ r ≤ at + 8 ⌝ }
 {
     match ty {
-        FrameType::FPO => put(b"fpo   ", out, at),
-        FrameType::Trap => put(b"trap  ", out, at),
-        FrameType::TSS => put(b"tss   ", out, at),
-        FrameType::Standard => put(b"std   ", out, at),
-        FrameType::FrameData => put(b"fdata ", out, at),
-        FrameType::Unknown => put(b"unknown ", out, at),
+        FrameType::FPO => put_bytes(b"fpo   ", out, at),
+        FrameType::Trap => put_bytes(b"trap  ", out, at),
+        FrameType::TSS => put_bytes(b"tss   ", out, at),
+        FrameType::Standard => put_bytes(b"std   ", out, at),
+        FrameType::FrameData => put_bytes(b"fdata ", out, at),
+        FrameType::Unknown => put_bytes(b"unknown ", out, at),
     }
 }
 
@@ -91,7 +92,7 @@ fn letters(f: FrameData, out: &mut [u8], at: usize) -> usize
         letter(f.uses_base_pointer, b'b'),
         b'\n',
     ];
-    put(&text, out, at)
+    put_bytes(&text, out, at)
 }
 
 // A frame on a line.

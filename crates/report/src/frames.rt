@@ -3,16 +3,17 @@ ghost use mathlib.Core.Path.{_≡_};
 ghost use Prim.Native.Nat.{_+_, _*_, _≤_};
 ghost use lib.ListN.{length};
 ghost use Rattle.lent.specs.Paper.{value};
-ghost use Rattle.report.specs.Text.{lines, Wrote, Printed};
+ghost use Rattle.lent.specs.Room.{Wrote};
+ghost use Rattle.report.specs.Text.{lines, Printed};
 ghost use Rattle.report.specs.Frames.{frameLine, frames, framesPrinted, framesOrRefusal, framesText, framesRoom};
 ghost use Rattle.report.specs.Frames.{FrameCount, howMany, toldTallied};
 use crate::frame_line::frame_line;
 use crate::text::numbered;
-use crate::text::put;
 use crate::text::refused;
 use framedata::FrameCursor;
 use framedata::FrameStep;
 use lent::Refusal;
+use lent::put_bytes;
 
 // Room for the largest text: 4,097 lines of at most 80 bytes.
 pub const FRAMES_ROOM: usize = 327760;
@@ -88,7 +89,7 @@ fn listing(old: &[u8], new: &[u8], n: usize, out: &mut [u8]) -> usize
         (now (out .entry)) 0 r (now (out .exit))
         ⌝ }
 {
-    let first = put(
+    let first = put_bytes(
         b"start    size     locals   params   prolog saved stack    program  type  flags\n",
         out,
         0,

@@ -3,7 +3,9 @@ ghost use mathlib.Core.Path.{_≡_};
 ghost use mathlib.Core.List.{_++_};
 ghost use Prim.Native.Nat.{_+_, _≤_, _<_};
 ghost use lib.ListN.{length};
-ghost use Rattle.report.specs.Text.{glyph, digits, hex, places, numbered, refusedText, Wrote};
+ghost use Rattle.lent.specs.Room.{Wrote};
+ghost use Rattle.report.specs.Text.{glyph, digits, hex, places, numbered, refusedText};
+use lent::put_bytes;
 
 // A digit below 16 in ASCII.
 fn glyph(d: u64) -> u8
@@ -45,19 +47,6 @@ fn places(n: usize) -> usize
     k
 }
 
-// The bytes of a word.
-pub(crate) fn put(word: &[u8], out: &mut [u8], at: usize) -> usize
-    requires { ⌜ at + length (now word) ≤ length (now out) ⌝ }
-    ensures { λ r. ⌜ Wrote (now (word .entry)) (now (out .entry)) at r (now (out .exit)) ⌝ }
-{
-    let mut i = 0;
-    while i < word.len() {
-        out[at + i] = word[i];
-        i += 1;
-    }
-    at + i
-}
-
 // A number as `width` hex digits, and what stands after them.
 pub(crate) fn hex(n: u64, width: usize, after: &[u8], out: &mut [u8], at: usize) -> usize
     requires { ⌜ at + (width + length (now after)) ≤ length (now out) ⌝ }
@@ -65,7 +54,7 @@ pub(crate) fn hex(n: u64, width: usize, after: &[u8], out: &mut [u8], at: usize)
     ensures { λ r. ⌜ r ≡ at + (width + length (now (after .entry))) ⌝ }
 {
     let told = digits(n, 16, width, out, at);
-    put(after, out, told)
+    put_bytes(after, out, told)
 }
 
 // A word, a number in decimal, and a line feed.
@@ -73,9 +62,9 @@ pub(crate) fn numbered(word: &[u8], n: usize, out: &mut [u8], at: usize) -> usiz
     requires { ⌜ at + (length (now word) + (places n + 1)) ≤ length (now out) ⌝ }
     ensures { λ r. ⌜ Wrote (numbered (now (word .entry)) n) (now (out .entry)) at r (now (out .exit)) ⌝ }
 {
-    let named = put(word, out, at);
+    let named = put_bytes(word, out, at);
     let told = digits(n as u64, 10, places(n), out, named);
-    put(b"\n", out, told)
+    put_bytes(b"\n", out, told)
 }
 
 // A refusal's line, alone.

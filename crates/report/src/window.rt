@@ -2,7 +2,9 @@
 ghost use mathlib.Core.List.{_++_};
 ghost use Prim.Native.Nat.{_+_, _*_, _≤_};
 ghost use lib.ListN.{length, take};
-ghost use Rattle.report.specs.Text.{ascii, numbered, Wrote, Printed};
+ghost use Rattle.lent.specs.Room.{Wrote};
+ghost use Rattle.lent.specs.Words.{ascii};
+ghost use Rattle.report.specs.Text.{numbered, Printed};
 ghost use Rattle.report.specs.Window.{pairLine, pairLines, tableText, windowText, windowRoom};
 use crate::text::hex;
 use crate::text::numbered;

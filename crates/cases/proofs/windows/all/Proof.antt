@@ -6,9 +6,10 @@ use Rattle.lent.specs.Words.{put}
 use Rattle.lent.specs.Le.{leAt}
 use Rattle.lent.specs.Table.{listed, shapeFault}
 use Rattle.lent.specs.Order.{risingAfter, rising, tableFault}
+use Rattle.lent.specs.Room.{roomFor}
 use Rattle.omap.specs.Records.{records}
 use Rattle.omap.specs.Window.{nextOf, pieceOf, pieces, windowPieces}
-use Rattle.omap.specs.Output.{besideStart, fits, allFit, sumFault, windowFault, flat, roomFor, windowSpec, windowOut}
+use Rattle.omap.specs.Output.{besideStart, fits, allFit, sumFault, windowFault, flat, windowSpec, windowOut}
 use Rattle.cases.proofs.windows.all.Statement.{statement}
 use Rattle.cases.proofs.windows.all.Tie as tie
 

@@ -7,8 +7,9 @@ use native.Mathlib.Omega.{arith}
 use lib.ListN.{length}
 use denote.Ref.{now}
 use Rattle.lent.specs.Paper.{number}
+use Rattle.lent.specs.Room.{counted, refusedAs, refusedFor}
 use Rattle.omap.specs.Window.{windowPieces}
-use Rattle.omap.specs.Output.{counted, refusedAs, refusedFor, toldCounted}
+use Rattle.omap.specs.Output.{toldCounted}
 use Rattle.omap.proofs.Outputs.{Counts, was-counted, was-refused, length-flat, answer-refused, answer-short}
 use Rattle.omap.proofs.Outputs.{answer-pieces, answered}
 use borrow.Author.Needs.{needs}

@@ -2,9 +2,9 @@
 -- Assumes nothing.
 use native.Mathlib.Omega.{arith}
 use lib.ListN.{take, drop}
+use Rattle.lent.proofs.Wrote.{wrote-both}
 use Rattle.framedata.specs.Frame.{toldFrame}
 use Rattle.report.specs.Frames.{kindColumns, frameLine}
-use Rattle.report.proofs.Writing.{wrote-both}
 use Rattle.report.proofs.Columns.{wrote-columns}
 use borrow.Author.Needs.{needs}
 use Rattle.report.proofs.frame_line.frame_line.Statement.{statement}

@@ -17,11 +17,11 @@ letter-requires-3 c κs = search needs
 letter-requires-4 : tie.Need-letter-requires-4
 letter-requires-4 c κs = search needs
 
-slice-aggregate-put : tie.Need-slice-aggregate-put
-slice-aggregate-put c = search needs
+slice-aggregate-put-bytes : tie.Need-slice-aggregate-put-bytes
+slice-aggregate-put-bytes c = search needs
 
-put-requires : tie.Need-put-requires
-put-requires c κs = search needs
+put-bytes-requires : tie.Need-put-bytes-requires
+put-bytes-requires c κs = search needs
 
 same-length : tie.Need-same-length
 same-length c = search needs
@@ -37,8 +37,8 @@ returns c =
         ← (start .letter3 .ensures),
         ← (base .letter4 .ensures),
       )
-          (w .put .ensures),
-      omega (arith, w .put .ensures .place),
+          (w .put-bytes .ensures),
+      omega (arith, w .put-bytes .ensures .place),
     )
 
 pub letters-spec : {M : Type 1} → statement M
@@ -49,7 +49,7 @@ letters-spec =
     letter-requires-2
     letter-requires-3
     letter-requires-4
-    slice-aggregate-put
-    put-requires
+    slice-aggregate-put-bytes
+    put-bytes-requires
     same-length
     returns)

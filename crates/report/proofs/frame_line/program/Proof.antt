@@ -20,11 +20,11 @@ hex-requires c κs = search needs
 enum-told : tie.Need-enum-told
 enum-told c = search needs
 
-slice-aggregate-put : tie.Need-slice-aggregate-put
-slice-aggregate-put c = search needs
+slice-aggregate-put-bytes : tie.Need-slice-aggregate-put-bytes
+slice-aggregate-put-bytes c = search needs
 
-put-requires : tie.Need-put-requires
-put-requires c κs = search needs
+put-bytes-requires : tie.Need-put-bytes-requires
+put-bytes-requires c κs = search needs
 
 same-length : tie.Need-same-length
 same-length c = search needs
@@ -38,7 +38,7 @@ same-length-2 c = search needs
 returns-2 : tie.Need-returns-2
 returns-2 c =
     let w = c .before .before in
-    rw (w .before .before .before .enum-told .given .1) (w .put .ensures, omega (arith, w .put .ensures .place))
+    rw (w .before .before .before .enum-told .given .1) (w .put-bytes .ensures, omega (arith, w .put-bytes .ensures .place))
 
 pub program-spec : {M : Type 1} → statement M
 program-spec =
@@ -49,8 +49,8 @@ program-spec =
     slice-aggregate-hex
     hex-requires
     enum-told
-    slice-aggregate-put
-    put-requires
+    slice-aggregate-put-bytes
+    put-bytes-requires
     same-length
     returns
     same-length-2

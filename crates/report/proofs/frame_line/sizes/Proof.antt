@@ -2,7 +2,8 @@
 -- Assumes nothing.
 use native.Mathlib.Omega.{arith}
 use mathlib.Core.List.{append-assoc}
-use Rattle.report.proofs.Writing.{length-digits, wrote-both}
+use Rattle.lent.proofs.Wrote.{wrote-both}
+use Rattle.report.proofs.Writing.{length-digits}
 use borrow.Author.Needs.{needs}
 use Rattle.report.proofs.frame_line.sizes.Statement.{statement}
 use Rattle.report.proofs.frame_line.sizes.Tie as tie

@@ -7,7 +7,7 @@ use lib.ListN.{length, take, drop}
 use native.Mathlib.Omega.{arith}
 use denote.Ref.{now}
 use Rattle.lent.specs.Le.{leAt}
-use Rattle.report.specs.Text.{Wrote}
+use Rattle.lent.specs.Room.{Wrote}
 use Rattle.report.specs.Frames.{framesOrRefusal, framesPrinted, framesText, framesRoom}
 use Rattle.report.proofs.Writing.{short, long, printed, not-printed, part-from}
 use Rattle.report.proofs.Listing.{overlong-frames, whole-frames}

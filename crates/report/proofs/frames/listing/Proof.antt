@@ -2,17 +2,18 @@
 -- Assumes nothing.
 use native.Mathlib.Omega.{arith}
 use denote.Ref.{now}
-use Rattle.report.proofs.Writing.{places-most, wrote-both}
+use Rattle.lent.proofs.Wrote.{wrote-both}
+use Rattle.report.proofs.Writing.{places-most}
 use Rattle.report.proofs.Listing.{length-frames}
 use borrow.Author.Needs.{needs}
 use Rattle.report.proofs.frames.listing.Statement.{statement}
 use Rattle.report.proofs.frames.listing.Tie as tie
 
-slice-aggregate-put : tie.Need-slice-aggregate-put
-slice-aggregate-put c = search needs
+slice-aggregate-put-bytes : tie.Need-slice-aggregate-put-bytes
+slice-aggregate-put-bytes c = search needs
 
-put-requires : tie.Need-put-requires
-put-requires c κs = search needs
+put-bytes-requires : tie.Need-put-bytes-requires
+put-bytes-requires c κs = search needs
 
 frame-lines-requires : tie.Need-frame-lines-requires
 frame-lines-requires c κs = search needs
@@ -25,7 +26,7 @@ numbered-requires c κs =
     let l = c .before .before .before .before in
     let h = l .before .before .before .before in
     let n = h .before .before .before .before .before .before .args .n in
-    omega (arith, l .frame-lines .ensures .1, h .put .ensures .place, places-most 3 n (omega arith))
+    omega (arith, l .frame-lines .ensures .1, h .put-bytes .ensures .place, places-most 3 n (omega arith))
 
 same-length : tie.Need-same-length
 same-length c = search needs
@@ -36,14 +37,14 @@ returns c =
     let h = l .before .before .before .before in
     let st = h .before .before .before .before .before .before in
     rw (length-frames (now (st .args .old)) (now (st .args .new)) (st .pre .0))
-    (wrote-both (h .put .ensures) (wrote-both (l .frame-lines .ensures .0) (c .before .before .numbered .ensures)))
+    (wrote-both (h .put-bytes .ensures) (wrote-both (l .frame-lines .ensures .0) (c .before .before .numbered .ensures)))
 
 pub listing-spec : {M : Type 1} → statement M
 listing-spec =
     tie.close
     (tie.spec
-    slice-aggregate-put
-    put-requires
+    slice-aggregate-put-bytes
+    put-bytes-requires
     frame-lines-requires
     slice-aggregate-numbered
     numbered-requires

@@ -1,8 +1,8 @@
 -- `report::window::pair_line` meets its contract: its two numbers, one after the other.
 -- Assumes nothing.
 use mathlib.Core.List.{append-assoc}
-use Rattle.report.proofs.Writing.{wrote-both}
 use borrow.Author.Needs.{needs}
+use Rattle.lent.proofs.Wrote.{wrote-both}
 use Rattle.report.proofs.window.pair_line.Statement.{statement}
 use Rattle.report.proofs.window.pair_line.Tie as tie
 

@@ -7,8 +7,8 @@ use mathlib.Core.List.{List, _++_}
 use native.Mathlib.Omega.{arith}
 use lib.ListN.{length, drop, getD, length-drop}
 use denote.Ref.{now}
+use Rattle.lent.proofs.Wrote.{Left, left-first, left-last, left-room, left-more}
 use Rattle.report.specs.Window.{pairLine, pairLines}
-use Rattle.report.proofs.Writing.{Left, left-first, left-last, left-room, left-more}
 use Rattle.report.proofs.Windows.{length-pair, pair-less, pairs-none}
 use Rattle.report.proofs.window.pair_lines.Statement.{statement}
 use Rattle.report.proofs.window.pair_lines.Tie as tie

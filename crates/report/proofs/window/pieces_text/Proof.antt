@@ -5,7 +5,8 @@ use mathlib.Core.Path.{sym}
 use native.Mathlib.Omega.{arith}
 use lib.Seq.{length-take-le}
 use denote.Ref.{now}
-use Rattle.report.proofs.Writing.{places-most, wrote-both}
+use Rattle.lent.proofs.Wrote.{wrote-both}
+use Rattle.report.proofs.Writing.{places-most}
 use Rattle.report.proofs.Windows.{taken-pairs}
 use borrow.Author.Needs.{needs}
 use Rattle.report.proofs.window.pieces_text.Statement.{statement}

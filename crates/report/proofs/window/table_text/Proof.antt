@@ -7,10 +7,11 @@ use lib.ListN.{length, replicate, length-replicate}
 use mathlib.Core.Path.{_≡_, sym, ap, _∙_, subst}
 use native.Mathlib.Omega.{arith}
 use denote.Ref.{now}
+use Rattle.lent.specs.Room.{Wrote}
 use Rattle.omap.specs.declared.windows.Windowed.{Windowed}
 use Rattle.omap.specs.declared.windows.Windowed.the-variants as windowed
 use Rattle.omap.specs.Window.{windowPieces}
-use Rattle.report.specs.Text.{refusedText, Wrote}
+use Rattle.report.specs.Text.{refusedText}
 use Rattle.omap.specs.Output.{toldWindowed, windowSpec, windowOut}
 use Rattle.report.specs.Window.{windowPrinted, tableText}
 use Rattle.report.proofs.Writing.{number-small}
