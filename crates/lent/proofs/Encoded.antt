@@ -50,7 +50,7 @@ le-written (suc w) s at b h =
 -- the four bytes of a number, stored one by one
 pub four-stored : (n : ℕ) (out : List ℕ) (at : ℕ) → n < 4294967296 → at + 4 ≤ length out
     → Wrote (leBytes 4 n) out at (at + 4)
-      (set (set (set (set out at (n % 256)) (at + 1) (n / 256 % 256)) (at + 2) (n / 65536 % 256)) (at + 3) (n / 16777216))
+    (set (set (set (set out at (n % 256)) (at + 1) (n / 256 % 256)) (at + 2) (n / 65536 % 256)) (at + 3) (n / 16777216))
 unfolding leBytes
 four-stored n out at h room =
     let third : n / 256 / 256 ≡ n / 65536 = omega arith in

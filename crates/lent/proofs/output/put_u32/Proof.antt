@@ -1,5 +1,6 @@
 -- `lent::output::put_u32` meets its contract: four bytes, stored one by one.
 -- Assumes nothing.
+use mathlib.Core.Path.{refl}
 use native.Mathlib.Omega.{arith}
 use lib.ListN.{length-set}
 use denote.Ref.{now}
@@ -48,7 +49,7 @@ same-length : tie.Need-same-length
 same-length c = search needs
 
 returns : tie.Need-returns
-returns c = let a = c .args in four-stored (a .value) (now (a .out)) (a .at) (omega arith) (omega arith)
+returns c = let a = c .args in (four-stored (a .value) (now (a .out)) (a .at) (omega arith) (omega arith), refl)
 
 pub put-u32-spec : {M : Type 1} → statement M
 put-u32-spec =

@@ -1,0 +1,5 @@
+pub mod Lengths
+pub mod Touching
+pub mod SpanBytes
+pub mod Readings
+pub mod Writings
