@@ -5,3 +5,4 @@ pub mod Headers
 pub mod Sections
 pub mod Frames
 pub mod Clashes
+pub mod Bundles
