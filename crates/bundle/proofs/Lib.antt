@@ -3,3 +3,7 @@ pub mod Touching
 pub mod SpanBytes
 pub mod Readings
 pub mod Writings
+pub mod Laying
+pub mod Trailing
+pub mod Bundles
+pub mod Determined
