@@ -89,7 +89,7 @@ module _ (s : List ℕ) (bytes : Bytes s) (g : Good s) where
   the-end =
       let four : at + 48 + 4 ≡ length s - 4 = omega (arith, g .room) in
       let version : leBytes 4 1 ≡ take 4 (drop (at + 48) s) =
-        ap (leBytes 4) (sym (g .version)) ∙ le-written 4 s (at + 48) bytes (omega (arith, g .room)) in
+      ap (leBytes 4) (sym (g .version)) ∙ le-written 4 s (at + 48) bytes (omega (arith, g .room)) in
       let last : drop 4 (drop (at + 48) s) ≡ mark = drop-drop 4 (at + 48) s ∙ rw four (g .marked) in
       rw (version, ← last) (sym (take-append-drop 4 (drop (at + 48) s)))
 
@@ -151,15 +151,18 @@ module _ (p : Parts) (fits : length (bundleOf p) ≤ 4294967295) where
   unfolding bundleOf same leBytes
   its-mark =
       let at : length (bundleOf p) - 4 ≡ length before + (length (allFields laid) + 4) =
-        omega (arith, length-bundle p, long) in
-      rw (at, drop-append-add before (trailer laid) (length (allFields laid) + 4),
-        drop-append-add (allFields laid) version 4)
+      omega (arith, length-bundle p, long) in
+      rw (
+        at,
+        drop-append-add before (trailer laid) (length (allFields laid) + 4),
+        drop-append-add (allFields laid) version 4,
+      )
 
   its-version : leAt 4 (bundleOf p) (trailerAt (bundleOf p) + 48) ≡ 1
   unfolding bundleOf
   its-version =
       let at : trailerAt (bundleOf p) + 48 ≡ length before + (length (allFields laid) + 0) =
-        omega (arith, length-bundle p, long) in
+      omega (arith, length-bundle p, long) in
       ap (leAt 4 (bundleOf p)) at
       ∙ le-after 4 before (trailer laid) (length (allFields laid) + 0)
       ∙ le-after 4 (allFields laid) version 0
@@ -183,7 +186,7 @@ module _ (p : Parts) (fits : length (bundleOf p) ≤ 4294967295) where
   pub bundle-read : partsRead (bundleOf p) ≡ value p
   bundle-read =
       let read =
-        read-parts (bundleOf p) fits (omega (arith, length-bundle p)) its-mark its-version its-touch in
+      read-parts (bundleOf p) fits (omega (arith, length-bundle p)) its-mark its-version its-touch in
       ap (λ (t : Told Spans). andThen t (λ (x : Spans). value (partsIn (bundleOf p) x))) (sym read) ∙ ap value its-parts
 
 -- what the writer has passed where it wrote n bytes

@@ -29,7 +29,7 @@ laid-touch p [] = eq-eqb p (p + 0) (omega arith)
 laid-touch p (none ∷ l) = laid-touch p l
 laid-touch p (some part ∷ l) =
     let e : p + length (part ++ joined l) ≡ p + length part + length (joined l) =
-      omega (arith, length-append part (joined l)) in
+    omega (arith, length-append part (joined l)) in
     rw (eq-eqb p p refl, e) (laid-touch (p + length part) l)
 
 -- the part that lies between others
@@ -37,9 +37,12 @@ between : (before part after : List ℕ) → partIn (before ++ (part ++ after)) 
 unfolding partIn bytesOf
 between before part after =
     let n : length before + length part ≤ length (before ++ (part ++ after)) =
-      omega (arith, length-append before (part ++ after), length-append part after) in
-    rw (le-leb (length before + length part) (length (before ++ (part ++ after))) n,
-      drop-append-seam before (part ++ after), take-append-seam part after)
+    omega (arith, length-append before (part ++ after), length-append part after) in
+    rw (
+      le-leb (length before + length part) (length (before ++ (part ++ after))) n,
+      drop-append-seam before (part ++ after),
+      take-append-seam part after,
+    )
 
 -- parts that are laid out after other bytes are read where they lie
 pub laid-read : (before : List ℕ) (l : List (Option (List ℕ))) (after : List ℕ)
@@ -51,10 +54,10 @@ laid-read before (some part ∷ l) after =
     let behind : List ℕ = joined l ++ after in
     let spans : List Span = spansFrom (length before + length part) l in
     let here : before ++ ((part ++ joined l) ++ after) ≡ before ++ (part ++ behind) =
-      ap (λ (r : List ℕ). before ++ r) (append-assoc part (joined l) after) in
+    ap (λ (r : List ℕ). before ++ r) (append-assoc part (joined l) after) in
     let there : before ++ (part ++ behind) ≡ before ++ part ++ behind = sym (append-assoc before part behind) in
     let rest : map (partIn (before ++ (part ++ behind))) spans ≡ l =
-      rw (there, ← (length-append before part)) (laid-read (before ++ part) l after) in
+    rw (there, ← (length-append before part)) (laid-read (before ++ part) l after) in
     ap (λ (s : List ℕ). map (partIn s) (At (length before) (length part) ∷ spans)) here
     ∙ ap (λ (x : Option (List ℕ)). x ∷ map (partIn (before ++ (part ++ behind))) spans) (between before part behind)
     ∙ ap (λ (r : List (Option (List ℕ))). some part ∷ r) rest
@@ -78,10 +81,10 @@ touch-laid s e h (At start size ∷ l) p t =
     let long : length (take size (drop p s)) ≡ size = length-take-le size (drop p s) inside in
     let split : e - p ≡ size + (e - (p + size)) = omega (arith, r .0) in
     let both : take (size + (e - (p + size))) (drop p s) ≡ take size (drop p s) ++ take (e - (p + size)) (drop (p + size) s) =
-      rw (← (drop-drop size p s)) (take-add size (e - (p + size)) (drop p s)) in
-    (
+    rw (← (drop-drop size p s)) (take-add size (e - (p + size)) (drop p s)) in (
       omega (arith, r .0),
-      rw (q, le-leb (p + size) (length s) within, long)
-      (ap (λ (k : List Span). At p size ∷ k) (r .1 .0),
-        rw (split) (ap (λ (k : List ℕ). take size (drop p s) ++ k) (r .1 .1) ∙ sym both))
+      rw (q, le-leb (p + size) (length s) within, long) (
+        ap (λ (k : List Span). At p size ∷ k) (r .1 .0),
+        rw (split) (ap (λ (k : List ℕ). take size (drop p s) ++ k) (r .1 .1) ∙ sym both),
+      ),
     )

@@ -79,12 +79,12 @@ unfolding listed
 one-span before x l after n e =
     let apart = append-assoc (fields x) l after in
     let moved : before ++ (fields x ++ (l ++ after)) ≡ before ++ fields x ++ (l ++ after) =
-      sym (append-assoc before (fields x) (l ++ after)) in
+    sym (append-assoc before (fields x) (l ++ after)) in
     let next : (k : ℕ) → spanAt (before ++ (fields x ++ (l ++ after))) (length before + 8 * suc k)
-        ≡ spanAt (before ++ fields x ++ (l ++ after)) (length (before ++ fields x) + 8 * k) =
-      λ k. let place : length before + 8 * suc k ≡ length (before ++ fields x) + 8 * k =
-          omega (arith, length-append before (fields x), length-fields x) in
-        rw (moved, place) in
+    ≡ spanAt (before ++ fields x ++ (l ++ after)) (length (before ++ fields x) + 8 * k) =
+    λ k. let place : length before + 8 * suc k ≡ length (before ++ fields x) + 8 * k =
+    omega (arith, length-append before (fields x), length-fields x) in
+    rw (moved, place) in
     rw (apart, add-zero (length before), e)
     (ap (λ (k : List Span). x ∷ k)
     (listed-next (λ (k : ℕ). spanAt (before ++ (fields x ++ (l ++ after))) (length before + 8 * k))

@@ -3,6 +3,7 @@
 // the run compares once more. Codes: 0 a value, 255 none, else the refusal. Addresses are hex, as in
 // the document.
 mod addresses;
+mod bundles;
 mod clashes;
 mod expected;
 mod frames;
@@ -18,4 +19,5 @@ fn main() {
     frames::merged();
     frames::begun();
     frames::attributes();
+    bundles::all();
 }
