@@ -40,10 +40,14 @@ enum gillacorn_refusal {
     GILLACORN_ORDER = 3,     /* a question that needs order meets a source (or code start) that is not
                                 greater than the one before it */
     GILLACORN_TOO_LARGE = 4, /* an asked sum or product exceeds 4,294,967,295 */
-    GILLACORN_SHORT = 5,     /* the result has more entries than the lent output holds; the needed
-                                number is told */
-    GILLACORN_EARLY = 6      /* a cursor would translate a mapped, non-empty piece that begins
+    GILLACORN_SHORT = 5,     /* the result has more entries, or bytes where it is bytes, than the lent
+                                output holds; the needed number is told */
+    GILLACORN_EARLY = 6,     /* a cursor would translate a mapped, non-empty piece that begins
                                 before its record's source */
+    GILLACORN_NOT_A_BUNDLE = 8,  /* a file has fewer than 56 bytes or does not end in BACK */
+    GILLACORN_OTHER_VERSION = 9, /* a bundle's version is not 1 */
+    GILLACORN_LAYOUT = 10        /* the parts of a bundle do not touch each other from its first byte
+                                    to its trailer, or one is half absent */
 };
 
 /* A code as a person reads it; never NULL. */
@@ -58,6 +62,9 @@ static inline const char *gillacorn_refusal_text(uint32_t code)
     case GILLACORN_TOO_LARGE: return "a sum or product exceeds 32 bits";
     case GILLACORN_SHORT: return "the output is too small";
     case GILLACORN_EARLY: return "a piece begins before the source of its record";
+    case GILLACORN_NOT_A_BUNDLE: return "this is no bundle: it has fewer than 56 bytes or does not end in BACK";
+    case GILLACORN_OTHER_VERSION: return "the bundle has another version than 1";
+    case GILLACORN_LAYOUT: return "the parts of the bundle break its layout";
     default: return "no code of this version";
     }
 }
@@ -289,6 +296,59 @@ gillacorn_frame_cursor_answer gillacorn_frames_at(uint32_t address, GILLACORN_FR
 /* Whether both tables are without a frame: `value` is 1 where they are, and 0 where there is a frame;
  * or refused with 1 or 2, of old, then of new. */
 gillacorn_value_answer gillacorn_frames_empty(GILLACORN_FRAMES);
+
+/* ---- bundles ---- */
+
+/* A bundle is one file with the tables of one build (examples/bundle.c): the present ones as plain
+ * bytes, one after the other in the order below, then 56 bytes that say where each is. A part that is
+ * present and empty differs from an absent one. What a part holds is not looked at: a question to its
+ * table does that. */
+
+/* Where a part is in the file; where it is absent the numbers are 0. */
+typedef struct { bool present; uint32_t start, length; } gillacorn_span;
+
+typedef struct {
+    gillacorn_span original_sections, transformed_sections, to_original, to_transformed, old_frames, new_frames;
+} gillacorn_spans;
+
+typedef struct { uint32_t code; gillacorn_spans spans; } gillacorn_spans_answer;
+
+/* Where the parts of a bundle are, each inside the file; or 4 (it has more than 4,294,967,295 bytes),
+ * 8, 9, 10. */
+gillacorn_spans_answer gillacorn_bundle_read(const uint8_t *file, size_t length);
+
+/* A part of a file that was read, as a table to ask. */
+static inline gillacorn_table gillacorn_part(const uint8_t *file, gillacorn_span span)
+{
+    return span.present ? gillacorn_given(file + span.start, span.length) : gillacorn_absent();
+}
+
+typedef struct { uint32_t code; size_t bytes; } gillacorn_bytes_answer;
+
+/* Writes a bundle to the first bytes of `out`: 4 (it would have more than 4,294,967,295 bytes), then
+ * 5. `bytes` is its length, also with code 5, where it is the number of bytes needed. */
+gillacorn_bytes_answer gillacorn_bundle_write(
+    bool has_original_sections, const uint8_t *original_sections, size_t original_sections_length,
+    bool has_transformed_sections, const uint8_t *transformed_sections, size_t transformed_sections_length,
+    bool has_to_original, const uint8_t *to_original, size_t to_original_length,
+    bool has_to_transformed, const uint8_t *to_transformed, size_t to_transformed_length,
+    bool has_old_frames, const uint8_t *old_frames, size_t old_frames_length,
+    bool has_new_frames, const uint8_t *new_frames, size_t new_frames_length,
+    uint8_t *out, size_t out_length);
+
+/* The same parts as one struct, and what spreads it. */
+typedef struct {
+    gillacorn_table original_sections, transformed_sections, to_original, to_transformed, old_frames, new_frames;
+} gillacorn_parts;
+
+static inline gillacorn_bytes_answer gillacorn_bundle_write_parts(gillacorn_parts parts, uint8_t *out,
+                                                                  size_t out_length)
+{
+    return gillacorn_bundle_write(
+        GILLACORN_SPREAD_TABLE(parts.original_sections), GILLACORN_SPREAD_TABLE(parts.transformed_sections),
+        GILLACORN_SPREAD_TABLE(parts.to_original), GILLACORN_SPREAD_TABLE(parts.to_transformed),
+        GILLACORN_SPREAD_TABLE(parts.old_frames), GILLACORN_SPREAD_TABLE(parts.new_frames), out, out_length);
+}
 
 #include "gillacorn_layout.h"
 

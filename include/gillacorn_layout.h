@@ -141,6 +141,27 @@ GILLACORN_AT(gillacorn_frame_step_answer, code, 0);
 GILLACORN_AT(gillacorn_frame_step_answer, frame, 4);
 GILLACORN_AT(gillacorn_frame_step_answer, cursor, 48);
 
+GILLACORN_SIZE(gillacorn_span, 12);
+GILLACORN_AT(gillacorn_span, present, 0);
+GILLACORN_AT(gillacorn_span, start, 4);
+GILLACORN_AT(gillacorn_span, length, 8);
+
+GILLACORN_SIZE(gillacorn_spans, 72);
+GILLACORN_AT(gillacorn_spans, original_sections, 0);
+GILLACORN_AT(gillacorn_spans, transformed_sections, 12);
+GILLACORN_AT(gillacorn_spans, to_original, 24);
+GILLACORN_AT(gillacorn_spans, to_transformed, 36);
+GILLACORN_AT(gillacorn_spans, old_frames, 48);
+GILLACORN_AT(gillacorn_spans, new_frames, 60);
+
+GILLACORN_SIZE(gillacorn_spans_answer, 76);
+GILLACORN_AT(gillacorn_spans_answer, code, 0);
+GILLACORN_AT(gillacorn_spans_answer, spans, 4);
+
+GILLACORN_SIZE(gillacorn_bytes_answer, 16);
+GILLACORN_AT(gillacorn_bytes_answer, code, 0);
+GILLACORN_AT(gillacorn_bytes_answer, bytes, 8);
+
 #undef GILLACORN_AT
 #undef GILLACORN_SIZE
 #undef GILLACORN_HOLDS

@@ -1,6 +1,6 @@
 #!/usr/bin/env bash
 # What a C developer gets, as installed: the header in C and in C++ with every warning, a layout that
-# differs seen at compile time, and the example's answers, in C99 and in C++.
+# differs seen at compile time, and the examples' answers, in C99 and in C++.
 # Exits with 77, after one line, where a compiler for x86-64 or pkg-config can't be had.
 # shellcheck disable=SC2154 # compile_c, compile_cxx: of target/setup
 set -euo pipefail
@@ -50,9 +50,22 @@ if $compile_cxx -std=c++11 -fsyntax-only -x c++ "$work/other/gillacorn.h" 2>/dev
     fails "another layout is not seen in C++"
 fi
 
-# ---- the example
+# ---- the examples
 
-cat >"$work/expected" <<END
+lines=0
+example() { # name; the lines that it has to print are on standard input
+    local source=$repository/examples/$1.c as
+    cat >"$work/expected"
+    $compile_c -std=c99 "${strict[@]}" -static -O2 "${cflags[@]}" "$source" "${libs[@]}" -o "$work/c99"
+    $compile_cxx -x c++ -std=c++11 "${strict[@]}" -static -O2 "${cflags[@]}" "$source" -x none "${libs[@]}" -o "$work/c++"
+    for as in c99 c++; do
+        ${GILLACORN_EMULATOR:-} "$work/$as" >"$work/said"
+        diff "$work/expected" "$work/said" || fails "the example $1 as $as: other than expected"
+    done
+    lines=$((lines + $(wc -l <"$work/expected")))
+}
+
+example example <<END
 gillacorn $version
 00000FFF hole
 000010FF 000050FF
@@ -76,11 +89,18 @@ offset 1:00000110 is gone
 frame 00000100, standard, locals 8
 cut: refused 1: the table's length is no multiple of its record
 END
-example=$repository/examples/example.c
-$compile_c -std=c99 "${strict[@]}" -static -O2 "${cflags[@]}" "$example" "${libs[@]}" -o "$work/c99"
-$compile_cxx -x c++ -std=c++11 "${strict[@]}" -static -O2 "${cflags[@]}" "$example" -x none "${libs[@]}" -o "$work/c++"
-for built_as in c99 c++; do
-    ${GILLACORN_EMULATOR:-} "$work/$built_as" >"$work/said"
-    diff "$work/expected" "$work/said" || fails "the example as $built_as: other than expected"
-done
-echo "c: the header in C99, C11, C17, C++11 and C++17; the example in C and C++, $(wc -l <"$work/expected") lines as they should be"
+example bundle <<END
+bundle of 88 bytes
+original sections absent
+transformed sections absent
+to original at 0, 16 bytes
+to transformed absent
+old frames at 16, 16 bytes
+new frames at 32, 0 bytes
+000010FF 000050FF
+00001100 hole
+00001100 00001100
+frame 00000100
+cut: refused 8: this is no bundle: it has fewer than 56 bytes or does not end in BACK
+END
+echo "c: the header in C99, C11, C17, C++11 and C++17; the examples in C and C++, $lines lines as they should be"

@@ -1,7 +1,7 @@
 #!/usr/bin/env bash
 # The command line `gillacorn` as a person runs it: each word, each refusal, bad words, and files,
-# pipes and outputs that fail. Refusals 5 and 6 can't come: the output always has room, and every
-# walk begins at a window.
+# pipes and outputs that fail. Bundles have a file of their own, cli_bundle.sh. Refusals 5 and 6 can't
+# come: the output always has room, and every walk begins at a window.
 # Exits with 77, after one line, where something can't be had.
 set -euo pipefail
 . "$(dirname "$0")/../rust/lib.sh"
@@ -240,9 +240,15 @@ is 0 '{"sections":[{"number":1,"name":"\u001b\"\\","virtual_size":2748,"virtual_
 '"characteristics":1615855648,"flags":["executable","execute","read"],"alignment":16}]}' '' \
     sections --json one
 
+. "$repository/tests/cli_bundle.sh"
+
 # ---- bad words and help
 
 is 2 '' '*requires a subcommand*'
+is 2 '' '*requires a subcommand*pack, list, unpack*' bundle
+is 2 '' '*<OUT>*' bundle pack
+is 2 '' '*<FILE>*' bundle list
+is 2 '' '*<DIR>*' bundle unpack T
 is 2 '' "*'drow'*" drow
 is 2 '' '*<B>*' draw T 800
 is 2 '' '*"12G" is no hexadecimal address*' draw T 800 12G
@@ -256,14 +262,14 @@ is 2 '' '*ADDRESS*' lookup T --quick
 is 2 '' 'gillacorn: standard input can be read once' lookup - -
 is 2 '' "*'--jsn'*" window T 800 1300 --jsn
 is 2 '' '*<FILE>*' sections
-for words in --help -h 'draw --help' 'help frames' --version; do
+for words in --help -h 'draw --help' 'help frames' 'bundle --help' 'bundle pack -h' --version; do
     # shellcheck disable=SC2086
     run gillacorn $words >out 2>err || fail "$words: exit status $?"
     [ -s out ] && [ ! -s err ] || fail "$words: no help on standard output"
     asked=$((asked + 1))
 done
 run gillacorn --help >out
-for word in draw lookup window clash back sections frames; do
+for word in draw lookup window clash back sections frames bundle; do
     grep -q "^  $word " out || fail "--help has no word $word"
 done
 
@@ -273,6 +279,7 @@ is 2 '' "gillacorn: can't read nothing: No such file*" draw nothing 800 1300
 is 2 '' "gillacorn: can't read .: Is a directory*" window . 800 1300
 is 2 '' "gillacorn: can't read nothing: No such file*" sections nothing
 is 2 '' "gillacorn: can't read nothing: No such file*" frames --old old --new nothing
+is 2 '' "gillacorn: can't read nothing: No such file*" frames --bundle nothing
 # Opened, and then each read fails.
 is 2 '' "gillacorn: can't read /proc/self/mem: *" draw /proc/self/mem 800 1300
 from=/proc/self/mem is 2 '' "gillacorn: can't read standard input: *" draw - 800 1300

@@ -19,7 +19,7 @@ pub trait Answer {
 /// Why there is no answer.
 pub enum Stop {
     Refused(Refusal),
-    /// Bad words, or a file that can't be read.
+    /// Bad words, or a file that can't be read or written.
     Bad(String),
 }
 

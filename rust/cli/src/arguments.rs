@@ -6,6 +6,8 @@ use std::ops::Range;
 use clap::{value_parser, Arg, ArgMatches};
 
 use crate::answer::Stop;
+use crate::parts::Part;
+use crate::tables;
 
 pub const JSON: &str = "json";
 
@@ -40,15 +42,23 @@ pub fn file(name: &'static str, help: &'static str) -> Arg {
         .value_parser(value_parser!(OsString))
 }
 
-/// The OMAP table.
-pub fn omap_table() -> Arg {
-    file("TABLE", "The OMAP table, a file, or - for standard input").required(true)
+/// A file behind a name of its own.
+pub fn file_option(name: &'static str, help: &'static str) -> Arg {
+    file(name, help).long(name).value_name("FILE")
 }
 
-/// A table and a window of its addresses.
-pub fn table_and_window() -> [Arg; 3] {
+/// The OMAP table.
+pub fn omap_table() -> [Arg; 2] {
+    let help = "The OMAP table, a file, or - for standard input";
     [
-        omap_table(),
+        file("TABLE", help).required(true),
+        tables::part(Part::OMAPS),
+    ]
+}
+
+/// A window of a table's addresses.
+pub fn window_ends() -> [Arg; 2] {
+    [
         Arg::new("A")
             .help("The first address of the window, hexadecimal")
             .required(true)
@@ -67,9 +77,14 @@ pub fn addresses(name: &'static str, help: &'static str) -> Arg {
         .value_parser(address)
 }
 
+/// The name of a file that is required.
+pub fn required<'m>(matches: &'m ArgMatches, name: &str) -> &'m OsString {
+    matches.get_one(name).expect("it is required")
+}
+
 /// The name of the table.
 pub fn table(matches: &ArgMatches) -> &OsString {
-    matches.get_one("TABLE").expect("it is required")
+    required(matches, "TABLE")
 }
 
 /// The window that was asked.

@@ -8,18 +8,37 @@ use crate::answer::Stop;
 use crate::arguments::{hex, Address};
 use crate::streams;
 
-fn is_stdin(name: &OsStr) -> bool {
+pub fn is_stdin(name: &OsStr) -> bool {
     name == "-"
+}
+
+/// A file's name as a sentence has it.
+pub fn shown(name: &OsStr) -> String {
+    match is_stdin(name) {
+        true => "standard input".into(),
+        false => Path::new(name).display().to_string(),
+    }
 }
 
 /// All bytes of a file, or of standard input where its name is `-`.
 pub fn read(name: &OsStr) -> Result<Vec<u8>, Stop> {
-    let (shown, bytes) = if is_stdin(name) {
-        ("standard input".into(), read_stdin())
-    } else {
-        (Path::new(name).display().to_string(), std::fs::read(name))
+    let bytes = match is_stdin(name) {
+        true => read_stdin(),
+        false => std::fs::read(name),
     };
-    bytes.map_err(|error| Stop::Bad(format!("can't read {shown}: {error}")))
+    bytes.map_err(|error| Stop::Bad(format!("can't read {}: {error}", shown(name))))
+}
+
+/// All bytes of each file that is named. Standard input may be one of them, once.
+pub fn read_each<const N: usize>(
+    names: [Option<&OsString>; N],
+) -> Result<[Option<Vec<u8>>; N], Stop> {
+    stdin_once(names.into_iter().flatten())?;
+    let mut files = names.map(|_| None);
+    for (file, name) in files.iter_mut().zip(names) {
+        *file = name.map(|name| read(name)).transpose()?;
+    }
+    Ok(files)
 }
 
 fn read_stdin() -> io::Result<Vec<u8>> {

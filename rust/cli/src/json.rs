@@ -38,10 +38,12 @@ pub fn text(text: &str) -> String {
     quoted
 }
 
-pub fn refused(refusal: Refusal) -> String {
+/// A refusal as members of an object.
+pub fn refusal(refusal: Refusal) -> String {
     let sentence = text(&refusal.to_string());
-    format!(
-        "{{\"refused\":{},\"sentence\":{sentence}}}\n",
-        refusal.number()
-    )
+    format!("\"refused\":{},\"sentence\":{sentence}", refusal.number())
+}
+
+pub fn refused(refused: Refusal) -> String {
+    format!("{{{}}}\n", refusal(refused))
 }

@@ -9,10 +9,13 @@ mod arguments;
 mod input;
 mod json;
 mod output;
+mod parts;
 mod pe_file;
 mod progress;
+mod save;
 #[allow(unsafe_code)]
 mod streams;
+mod tables;
 mod translations;
 mod words;
 

@@ -1,6 +1,7 @@
 //! The words of the command line: one module each, and a line in the list.
 
 mod back;
+mod bundle;
 mod clash;
 mod draw;
 mod frames;
@@ -16,7 +17,7 @@ use crate::arguments::JSON;
 /// A word: what it takes, and what it does.
 type Word = (fn() -> Command, fn(&ArgMatches) -> Answered);
 
-const WORDS: [Word; 7] = [
+const WORDS: [Word; 8] = [
     (draw::command, draw::run),
     (lookup::command, lookup::run),
     (window::command, window::run),
@@ -24,6 +25,7 @@ const WORDS: [Word; 7] = [
     (back::command, back::run),
     (sections::command, sections::run),
     (frames::command, frames::run),
+    (bundle::command, bundle::run),
 ];
 
 const AFTER: &str = "\
@@ -44,12 +46,21 @@ pub fn command() -> Command {
         .after_help(AFTER)
         .subcommand_required(true)
         .arg(json)
-        .subcommands(WORDS.iter().map(|(command, _)| command()))
+        .subcommands(commands(&WORDS))
 }
 
 pub fn run(matches: &ArgMatches) -> Answered {
+    run_one(&WORDS, matches)
+}
+
+fn commands(words: &[Word]) -> impl Iterator<Item = Command> + '_ {
+    words.iter().map(|(command, _)| command())
+}
+
+/// Does what the word among these says.
+fn run_one(words: &[Word], matches: &ArgMatches) -> Answered {
     let (name, matches) = matches.subcommand().expect("a word is required");
-    let word = WORDS
+    let word = words
         .iter()
         .find(|(command, _)| command().get_name() == name);
     let (_, run) = word.expect("clap knows no other word");

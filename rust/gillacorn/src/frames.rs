@@ -148,6 +148,11 @@ pub struct FrameTable<'t> {
 }
 
 impl<'t> FrameTable<'t> {
+    /// Bytes in an old frame.
+    pub const OLD_RECORD: usize = 16;
+    /// Bytes in a new frame.
+    pub const NEW_RECORD: usize = 32;
+
     /// A table over the given bytes. Each question checks them.
     #[inline]
     pub fn new(old: Option<&'t [u8]>, new: Option<&'t [u8]>) -> Self {
@@ -204,7 +209,7 @@ impl<'t> FrameTable<'t> {
     }
 
     #[inline]
-    fn lent(&self) -> Frames<'t> {
+    pub(crate) fn lent(&self) -> Frames<'t> {
         Frames {
             old: self.old.into(),
             new: self.new.into(),

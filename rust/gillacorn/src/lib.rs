@@ -9,6 +9,7 @@ extern crate alloc;
 extern crate std;
 
 mod addresses;
+mod bundles;
 mod clashes;
 #[allow(unsafe_code)]
 pub mod ffi;
@@ -26,6 +27,7 @@ pub use crate::addresses::{
     AddressMap, PdbInternalRva, PdbInternalRvaRangeIter, PdbInternalSectionOffset, Rva,
     RvaRangeIter, SectionOffset,
 };
+pub use crate::bundles::Bundle;
 pub use crate::clashes::Sources;
 pub use crate::frames::{FrameCursor, FrameData, FrameDataIter, FrameTable, FrameType, StringRef};
 pub use crate::headers::{ImageSectionHeader, SectionCharacteristics, SectionTable};

@@ -52,6 +52,9 @@ pub struct QuickLookup {
 pub struct OMAPTable<'t>(pub(crate) &'t [u8]);
 
 impl<'t> OMAPTable<'t> {
+    /// Bytes in a record.
+    pub const RECORD: usize = 8;
+
     /// A table over the given bytes. Each question checks them.
     #[inline]
     pub fn new(bytes: &'t [u8]) -> Self {

@@ -9,7 +9,7 @@ use core::fmt;
 ///
 /// let refusal = Refusal::Short { needed: 3 };
 /// assert_eq!(refusal.number(), 5);
-/// assert_eq!(refusal.to_string(), "the output is too small: 3 entries are needed");
+/// assert_eq!(refusal.to_string(), "the output is too small: room for 3 is needed");
 /// ```
 #[derive(Clone, Copy, Debug, Eq, Hash, PartialEq)]
 #[non_exhaustive]
@@ -22,13 +22,20 @@ pub enum Refusal {
     Order,
     /// 4: a sum or product exceeds 32 bits.
     TooLarge,
-    /// 5: the result has more entries than the lent output holds.
+    /// 5: the result has more entries, or bytes where it is bytes, than the lent output holds.
     Short {
-        /// How many entries the result has.
+        /// How many of them the result has.
         needed: usize,
     },
     /// 6: a cursor would translate a mapped, non-empty piece that begins before its record's source.
     Early,
+    /// 8: a file has fewer than 56 bytes or does not end in `BACK`.
+    NotABundle,
+    /// 9: the version of a bundle is not 1.
+    OtherVersion,
+    /// 10: the parts of a bundle do not touch each other from its first byte to its trailer, or one
+    /// is half absent.
+    Layout,
     /// A number that this crate has no name for: the archive is newer than the crate.
     Other {
         /// The number.
@@ -49,6 +56,9 @@ impl Refusal {
             Refusal::TooLarge => 4,
             Refusal::Short { .. } => 5,
             Refusal::Early => 6,
+            Refusal::NotABundle => 8,
+            Refusal::OtherVersion => 9,
+            Refusal::Layout => 10,
             Refusal::Other { number } => number,
         }
     }
@@ -62,9 +72,14 @@ impl fmt::Display for Refusal {
             Refusal::Order => "the table is out of order",
             Refusal::TooLarge => "a sum or product exceeds 32 bits",
             Refusal::Short { needed } => {
-                return write!(f, "the output is too small: {needed} entries are needed")
+                return write!(f, "the output is too small: room for {needed} is needed")
             }
             Refusal::Early => "a piece begins before the source of its record",
+            Refusal::NotABundle => {
+                "this is no bundle: it has fewer than 56 bytes or does not end in BACK"
+            }
+            Refusal::OtherVersion => "the bundle has another version than 1",
+            Refusal::Layout => "the parts of the bundle break its layout",
             Refusal::Other { number } => {
                 return write!(
                     f,
@@ -107,6 +122,9 @@ fn refusal(code: u32, needed: usize) -> Refusal {
         4 => Refusal::TooLarge,
         5 => Refusal::Short { needed },
         6 => Refusal::Early,
+        8 => Refusal::NotABundle,
+        9 => Refusal::OtherVersion,
+        10 => Refusal::Layout,
         number => Refusal::Other { number },
     }
 }
@@ -124,7 +142,7 @@ mod tests {
             assert_eq!(refusal.number(), number);
             assert_eq!(value(number, 9, 'v'), Err(refusal));
             assert_eq!(
-                number > 6,
+                matches!(number, 7 | 11..),
                 matches!(refusal, Refusal::Other { .. }),
                 "{refusal}"
             );

@@ -7,13 +7,14 @@ use gillacorn::{OMAPTable, Refusal, Sources};
 
 use super::clash::Clash;
 use crate::answer::{Answer, Answered};
-use crate::{arguments, input, json, progress};
+use crate::{arguments, input, json, progress, tables};
 
 pub fn command() -> Command {
     let targets = "Addresses to go back from, or - for those on standard input";
     Command::new("back")
         .about("Tell which address of a window translates to a target: one, none, or two or more")
-        .args(arguments::table_and_window())
+        .args(arguments::omap_table())
+        .args(arguments::window_ends())
         .arg(
             arguments::addresses("TARGET", targets)
                 .num_args(1..)
@@ -27,7 +28,7 @@ pub fn run(matches: &ArgMatches) -> Answered {
     let asked = arguments::asked(matches, "TARGET");
     input::stdin_once(arguments::sources(name, &asked).iter())?;
     let targets = input::addresses(asked)?;
-    let bytes = input::read(name)?;
+    let bytes = tables::read(name, matches)?;
     let table = OMAPTable::new(&bytes);
     let found = progress::during("targets", Some(targets.len()), |done| {
         let go_back = |target| {

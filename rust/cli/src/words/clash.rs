@@ -6,18 +6,19 @@ use clap::{ArgMatches, Command};
 use gillacorn::{OMAPTable, Refusal};
 
 use crate::answer::{Answer, Answered};
-use crate::{arguments, input, progress};
+use crate::{arguments, progress, tables};
 
 pub fn command() -> Command {
     Command::new("clash")
         .about("Tell the least two addresses of a window with one translation")
-        .args(arguments::table_and_window())
+        .args(arguments::omap_table())
+        .args(arguments::window_ends())
 }
 
 pub fn run(matches: &ArgMatches) -> Answered {
     let window = arguments::window(matches)?;
     let name = arguments::table(matches);
-    let bytes = input::read(name)?;
+    let bytes = tables::read(name, matches)?;
     Ok(Box::new(Clashes(find(OMAPTable::new(&bytes), window)?)))
 }
 

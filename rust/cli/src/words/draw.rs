@@ -9,12 +9,13 @@ use gillacorn::{OMAPTable, Refusal};
 use super::clash::{self, Clash};
 use crate::answer::{Answer, Answered, Stop};
 use crate::translations::Translations;
-use crate::{arguments, input, json};
+use crate::{arguments, input, json, tables};
 
 pub fn command() -> Command {
     Command::new("draw")
         .about("Translate addresses of a window, or all of it, unless it clashes")
-        .args(arguments::table_and_window())
+        .args(arguments::omap_table())
+        .args(arguments::window_ends())
         .arg(arguments::addresses(
             "ADDRESS",
             "Addresses of the window, or - for standard input; with none, all of it",
@@ -33,7 +34,7 @@ pub fn run(matches: &ArgMatches) -> Answered {
         let why = format!("{address:08X} is outside the window {start:08X}..{end:08X}");
         return Err(Stop::Bad(why));
     }
-    let bytes = input::read(name)?;
+    let bytes = tables::read(name, matches)?;
     let table = OMAPTable::new(&bytes);
     Ok(Box::new(match clash::find(table, window.clone())? {
         Some(clash) => Drawn::Nothing(clash),

@@ -3,37 +3,36 @@
 use std::ffi::OsString;
 use std::fmt::Write;
 
-use clap::{Arg, ArgGroup, ArgMatches, Command};
+use clap::{ArgGroup, ArgMatches, Command};
 use gillacorn::{FrameData, FrameTable, Refusal};
 
 use crate::answer::{Answer, Answered};
-use crate::{arguments, input, json};
+use crate::parts::Part;
+use crate::{arguments, input, json, tables};
 
 pub fn command() -> Command {
-    let file = |name, help| -> Arg { arguments::file(name, help).long(name).value_name("FILE") };
+    let bundle = "A bundle, for both its tables of frames; - for standard input";
     Command::new("frames")
         .about("List the frames of an old and a new table, in order of code start")
-        .arg(file(
-            "old",
-            "Old frames, 16 bytes each; - for standard input",
-        ))
-        .arg(file(
-            "new",
-            "New frames, 32 bytes each; - for standard input",
-        ))
+        .arg(arguments::file_option("old", Part::OldFrames.help()))
+        .arg(arguments::file_option("new", Part::NewFrames.help()))
+        .arg(arguments::file_option("bundle", bundle).conflicts_with_all(["old", "new"]))
         .group(
             ArgGroup::new("tables")
-                .args(["old", "new"])
+                .args(["old", "new", "bundle"])
                 .multiple(true)
                 .required(true),
         )
 }
 
 pub fn run(matches: &ArgMatches) -> Answered {
-    let names = ["old", "new"].map(|name| matches.get_one::<OsString>(name));
-    input::stdin_once(names.into_iter().flatten())?;
-    let [old, new] = names.map(|name| name.map(|name| input::read(name)).transpose());
-    let (old, new) = (old?, new?);
+    let [old, new] = match matches.get_one::<OsString>("bundle") {
+        Some(name) => match tables::bundled(name, Part::FRAMES)? {
+            [None, None] => return Err(tables::absent(name, &Part::FRAMES)),
+            found => found,
+        },
+        None => input::read_each(["old", "new"].map(|name| matches.get_one(name)))?,
+    };
     let frames = FrameTable::new(old.as_deref(), new.as_deref()).iter();
     Ok(Box::new(Frames(frames.collect::<Result<_, Refusal>>()?)))
 }

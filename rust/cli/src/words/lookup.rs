@@ -5,7 +5,7 @@ use gillacorn::OMAPTable;
 
 use crate::answer::{Answer, Answered};
 use crate::translations::Translations;
-use crate::{arguments, input};
+use crate::{arguments, input, tables};
 
 const QUICK: &str = "quick";
 
@@ -15,7 +15,7 @@ pub fn command() -> Command {
                  for a table that is known to be in order";
     Command::new("lookup")
         .about("Translate single addresses, whether others go to the same place or not")
-        .arg(arguments::omap_table())
+        .args(arguments::omap_table())
         .arg(
             arguments::addresses("ADDRESS", addresses)
                 .num_args(1..)
@@ -34,7 +34,7 @@ pub fn run(matches: &ArgMatches) -> Answered {
     let asked = arguments::asked(matches, "ADDRESS");
     input::stdin_once(arguments::sources(name, &asked).iter())?;
     let addresses = input::addresses(asked)?;
-    let bytes = input::read(name)?;
+    let bytes = tables::read(name, matches)?;
     let table = OMAPTable::new(&bytes);
     let quick = matches.get_flag(QUICK);
     if !quick {

@@ -1,6 +1,5 @@
-//! `sections`: the section headers of a PE file or of a bare table.
+//! `sections`: the section headers of a PE file, of a bare table or of a part of a bundle.
 
-use std::ffi::OsString;
 use std::fmt::Write;
 use std::path::Path;
 
@@ -8,20 +7,25 @@ use clap::{ArgMatches, Command};
 use gillacorn::{ImageSectionHeader, SectionCharacteristics, SectionTable};
 
 use crate::answer::{Answer, Answered, Stop};
-use crate::{arguments, input, json, pe_file};
+use crate::parts::Part;
+use crate::{arguments, json, pe_file, tables};
 
 pub fn command() -> Command {
     let help = "A PE file, or a bare table of 40 bytes a header; - for standard input";
     Command::new("sections")
         .about("List section headers")
         .arg(arguments::file("FILE", help).required(true))
+        .arg(tables::part(Part::SECTIONS))
 }
 
 pub fn run(matches: &ArgMatches) -> Answered {
-    let name = matches.get_one::<OsString>("FILE").expect("it is required");
-    let file = input::read(name)?;
+    let name = arguments::required(matches, "FILE");
+    let file = tables::read(name, matches)?;
     let bad = |why| Stop::Bad(format!("{}: {why}", Path::new(name).display()));
-    let table = pe_file::section_table(&file).map_err(bad)?;
+    let table = match tables::asked_part(matches) {
+        Some(_) => &file,
+        None => pe_file::section_table(&file).map_err(bad)?,
+    };
     Ok(Box::new(Sections(SectionTable::new(table).headers()?)))
 }
 

@@ -6,18 +6,19 @@ use clap::{ArgMatches, Command};
 use gillacorn::{OMAPTable, Refusal};
 
 use crate::answer::{Answer, Answered};
-use crate::{arguments, input, json};
+use crate::{arguments, json, tables};
 
 pub fn command() -> Command {
     Command::new("window")
         .about("List where the pieces of a window go, clash or not: start and excluded end")
-        .args(arguments::table_and_window())
+        .args(arguments::omap_table())
+        .args(arguments::window_ends())
 }
 
 pub fn run(matches: &ArgMatches) -> Answered {
     let window = arguments::window(matches)?;
     let name = arguments::table(matches);
-    let bytes = input::read(name)?;
+    let bytes = tables::read(name, matches)?;
     let table = OMAPTable::new(&bytes);
     let needed = match table.window(window.clone(), &mut []) {
         Err(Refusal::Short { needed }) => needed,

@@ -130,7 +130,7 @@ impl<'t> AddressMap<'t> {
     }
 
     #[inline]
-    pub(super) fn lent(&self) -> ffi::Map<'t> {
+    pub(crate) fn lent(&self) -> ffi::Map<'t> {
         ffi::Map {
             original_sections: self.original_sections.into(),
             transformed_sections: self.transformed_sections.into(),

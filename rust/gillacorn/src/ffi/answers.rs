@@ -158,6 +158,32 @@ structs! {
         /// The place of the next new frame.
         new_index: usize,
     }
+
+    /// Where a part is in a bundle; where it is absent the numbers are 0.
+    Span {
+        /// Whether the part is there.
+        present: bool,
+        /// The place of its first byte.
+        start: u32,
+        /// How many bytes it has.
+        length: u32,
+    }
+
+    /// Where each part is in a bundle.
+    Spans {
+        /// The section headers before the executable was rearranged.
+        original_sections: Span,
+        /// The section headers of the executable, where they differ.
+        transformed_sections: Span,
+        /// The OMAP from the executable's addresses to the PDB's.
+        to_original: Span,
+        /// The OMAP from the PDB's addresses to the executable's.
+        to_transformed: Span,
+        /// Old frames.
+        old_frames: Span,
+        /// New frames.
+        new_frames: Span,
+    }
 }
 
 /// Structs that begin with `code`: 0, a value is given; 255, none; else the number of a refusal.
@@ -258,5 +284,15 @@ answers! {
         frame: Frame,
         /// The cursor to go on with; at the end and after a refusal the one that was given.
         cursor: FrameCursor,
+    }
+    /// Where the parts of a bundle are.
+    SpansAnswer {
+        /// The place of each.
+        spans: Spans,
+    }
+    /// How many bytes a bundle has.
+    BytesAnswer {
+        /// Their number, also with refusal 5, where it is the number needed.
+        bytes: usize,
     }
 }

@@ -168,6 +168,7 @@ over_table! {
     virtual_address = gillacorn_virtual_address(section: u16, offset: u32) -> ValueAnswer;
     old_frame = gillacorn_old_frame(place: usize) -> FrameAnswer;
     new_frame = gillacorn_new_frame(place: usize) -> FrameAnswer;
+    bundle_read = gillacorn_bundle_read() -> SpansAnswer;
 }
 
 over_lent! {
@@ -213,4 +214,31 @@ over_frames! {
     frame_next = gillacorn_frame_next(cursor: FrameCursor) -> FrameStepAnswer;
     frames_at = gillacorn_frames_at(address: u32) -> FrameCursorAnswer;
     frames_empty = gillacorn_frames_empty() -> ValueAnswer;
+}
+
+over! {
+    bundle_write = gillacorn_bundle_write (map: &Map<'_>, frames: &Frames<'_>, out: &mut [u8])
+        (
+            has_original_sections: bool, original_sections: *const u8,
+            original_sections_length: usize,
+            has_transformed_sections: bool, transformed_sections: *const u8,
+            transformed_sections_length: usize,
+            has_to_original: bool, to_original: *const u8, to_original_length: usize,
+            has_to_transformed: bool, to_transformed: *const u8, to_transformed_length: usize,
+            has_old_frames: bool, old_frames: *const u8, old_frames_length: usize,
+            has_new_frames: bool, new_frames: *const u8, new_frames_length: usize,
+            out: *mut u8, out_length: usize
+        ) -> BytesAnswer
+        = gillacorn_bundle_write(
+            map.original_sections.present, map.original_sections.bytes.as_ptr(),
+            map.original_sections.bytes.len(),
+            map.transformed_sections.present, map.transformed_sections.bytes.as_ptr(),
+            map.transformed_sections.bytes.len(),
+            map.to_original.present, map.to_original.bytes.as_ptr(), map.to_original.bytes.len(),
+            map.to_transformed.present, map.to_transformed.bytes.as_ptr(),
+            map.to_transformed.bytes.len(),
+            frames.old.present, frames.old.bytes.as_ptr(), frames.old.bytes.len(),
+            frames.new.present, frames.new.bytes.as_ptr(), frames.new.bytes.len(),
+            out.as_mut_ptr(), out.len(),
+        )
 }
