@@ -66,6 +66,7 @@ static gillacorn_table lend(enum place place, size_t by, const uint8_t *bytes, s
 }
 
 #define PIECES 3 /* of the window 0..1400 */
+#define BYTES (2 * sizeof sections + 2 * sizeof omap + sizeof old_frames + sizeof new_frames + 56) /* of a bundle */
 
 static lent lend_all(enum place place, size_t by, size_t cut)
 {
@@ -74,9 +75,12 @@ static lent lend_all(enum place place, size_t by, size_t cut)
     l.omap = lend(place, by, omap, sizeof omap - cut);
     l.old_frames = lend(place, by, old_frames, sizeof old_frames - cut);
     l.new_frames = lend(place, by, new_frames, sizeof new_frames - cut);
+    l.bundle = lend(place, by, bundle, sizeof bundle - cut);
     l.room = PIECES;
     l.out = (uint32_t *)(void *)room(place, l.room * sizeof(gillacorn_piece), 0);
     l.list = (gillacorn_piece *)(void *)room(place, l.room * sizeof(gillacorn_piece), 0);
+    l.bytes_room = BYTES;
+    l.bytes = room(place, l.bytes_room, by);
     return l;
 }
 
@@ -84,7 +88,7 @@ static lent lend_all(enum place place, size_t by, size_t cut)
 static lent lend_same(bool present, const uint8_t *bytes, size_t length, void *out)
 {
     gillacorn_table table = {present, bytes, length};
-    lent l = {table, table, table, table, (uint32_t *)out, (gillacorn_piece *)out, 0};
+    lent l = {table, table, table, table, table, (uint32_t *)out, (gillacorn_piece *)out, 0, (uint8_t *)out, 0};
     return l;
 }
 
@@ -99,6 +103,9 @@ static void ask(const lent *l, bool bare)
             ask_bare(l, addresses[i]);
         ask_marked(l, addresses[i]);
     }
+    if (bare)
+        ask_bundle_read(l);
+    ask_bundle_write(l);
 }
 
 static void expect(const lent *l, bool bare)
@@ -199,6 +206,8 @@ static void outputs(void)
     written(damaged, sizeof damaged, 16, GILLACORN_TOO_LARGE);
 }
 
+#include "boundary_bundles.h"
+
 int main(void)
 {
     page = (size_t)sysconf(_SC_PAGESIZE);
@@ -210,5 +219,7 @@ int main(void)
     empty();
     absent();
     outputs();
+    bundle_outputs();
+    by_lengths();
     return 0;
 }

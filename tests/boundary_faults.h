@@ -101,4 +101,89 @@ static gillacorn_pair_answer faulty(const uint8_t *table, size_t length, uint32_
     return gillacorn_clash(table, length, a, b);
 }
 #define gillacorn_clash faulty
+
+#elif FAULT == 11 /* fault 11: after */
+/* Reads one byte past the file. */
+static gillacorn_spans_answer faulty(const uint8_t *file, size_t length)
+{
+    if (length > 0)
+        (void)((const volatile uint8_t *)file)[length];
+    return gillacorn_bundle_read(file, length);
+}
+#define gillacorn_bundle_read faulty
+
+#elif FAULT == 12 /* fault 12: lengths */
+/* Reads a file before it looks at the length. */
+static gillacorn_spans_answer faulty(const uint8_t *file, size_t length)
+{
+    if (length > 0)
+        (void)((const volatile uint8_t *)file)[length - 1];
+    return gillacorn_bundle_read(file, length);
+}
+#define gillacorn_bundle_read faulty
+
+#elif FAULT >= 13
+#define PART(name) bool has_##name, const uint8_t *name, size_t name##_length
+#define PARTS_BUT_LAST PART(a), PART(b), PART(c), PART(d), PART(e)
+#define GIVEN(name) has_##name, name, name##_length
+#define GIVEN_BUT_LAST GIVEN(a), GIVEN(b), GIVEN(c), GIVEN(d), GIVEN(e)
+
+#if FAULT == 13 /* fault 13: refused */
+/* Writes before it refuses. */
+static gillacorn_bytes_answer faulty(PARTS_BUT_LAST, PART(f), uint8_t *out, size_t places)
+{
+    gillacorn_bytes_answer given = gillacorn_bundle_write(GIVEN_BUT_LAST, GIVEN(f), out, places);
+    if (given.code == GILLACORN_SHORT && places > 0)
+        out[places - 1] = 0;
+    return given;
+}
+
+#elif FAULT == 14 /* fault 14: output */
+/* Writes one byte more than the bundle has, where there is room. */
+static gillacorn_bytes_answer faulty(PARTS_BUT_LAST, PART(f), uint8_t *out, size_t places)
+{
+    gillacorn_bytes_answer given = gillacorn_bundle_write(GIVEN_BUT_LAST, GIVEN(f), out, places);
+    if (given.code == GILLACORN_VALUE && given.bytes < places)
+        out[given.bytes] = 0;
+    return given;
+}
+
+#elif FAULT == 15 /* fault 15: lengths */
+/* Adds lengths up in 64 bits, where the sum may come round. */
+static gillacorn_bytes_answer faulty(PARTS_BUT_LAST, PART(f), uint8_t *out, size_t places)
+{
+    size_t sum = 56 + a_length + b_length + c_length + d_length + e_length + f_length;
+    gillacorn_bytes_answer given = gillacorn_bundle_write(GIVEN_BUT_LAST, GIVEN(f), out, places);
+    if (given.code == GILLACORN_TOO_LARGE && sum <= UINT32_MAX)
+        given.code = GILLACORN_SHORT;
+    return given;
+}
+
+#elif FAULT == 16 /* fault 16: lengths */
+/* Reads a part before it knows that the output is too short. */
+static gillacorn_bytes_answer faulty(PARTS_BUT_LAST, PART(f), uint8_t *out, size_t places)
+{
+    if (has_d && d_length > 0)
+        (void)*(const volatile uint8_t *)d;
+    return gillacorn_bundle_write(GIVEN_BUT_LAST, GIVEN(f), out, places);
+}
+
+#elif FAULT == 17 /* fault 17: lengths */
+/* Counts a length beside an absent mark. */
+static gillacorn_bytes_answer faulty(PARTS_BUT_LAST, PART(f), uint8_t *out, size_t places)
+{
+    gillacorn_bytes_answer given = gillacorn_bundle_write(GIVEN_BUT_LAST, GIVEN(f), out, places);
+    if (!has_f && f_length > UINT32_MAX)
+        given.code = GILLACORN_TOO_LARGE, given.bytes = 0;
+    return given;
+}
+
+#elif FAULT == 18 /* fault 18: upper bits */
+/* Takes the whole place on the stack for a mark. */
+static gillacorn_bytes_answer faulty(PARTS_BUT_LAST, uint64_t has_f, const uint8_t *f, size_t f_length, uint8_t *out, size_t places)
+{
+    return gillacorn_bundle_write(GIVEN_BUT_LAST, has_f == 1, f, f_length, out, places);
+}
+#endif
+#define gillacorn_bundle_write faulty
 #endif

@@ -9,9 +9,10 @@ static void fails(const char *what)
     exit(1);
 }
 
-/* ---- tables: four OMAP records, three headers, two old and two new frames ---- */
+/* ---- tables: four OMAP records, three headers, two old and two new frames; a bundle of them ---- */
 
 static uint8_t omap[32], sections[120], old_frames[32], new_frames[64];
+static uint8_t bundle[sizeof sections + sizeof omap + sizeof new_frames + 56];
 
 static void put(uint8_t *bytes, uint32_t number)
 {
@@ -39,13 +40,23 @@ static void fill_tables(void)
         put(old_frames + 16 * i + 8, 2);
         put(new_frames + 32 * i, 0x1080 + 0x100 * (uint32_t)i);
     }
+    /* Original sections, to-original, an empty old table and new frames; the others are absent. */
+    static const uint32_t trailer[] = {0, 120, UINT32_MAX, UINT32_MAX, 120, 32, UINT32_MAX, UINT32_MAX, 152, 0, 152, 64, 1};
+    memcpy(bundle, sections, 120);
+    memcpy(bundle + 120, omap, 32);
+    memcpy(bundle + 152, new_frames, 64);
+    for (int i = 0; i < 13; i++)
+        put(bundle + 216 + 4 * i, trailer[i]);
+    memcpy(bundle + 268, "BACK", 4);
 }
 
 typedef struct {
-    gillacorn_table sections, omap, old_frames, new_frames;
+    gillacorn_table sections, omap, old_frames, new_frames, bundle;
     uint32_t *out;
     gillacorn_piece *list;
     size_t room; /* in pieces */
+    uint8_t *bytes;
+    size_t bytes_room;
 } lent;
 
 /* ---- the questions ---- */
@@ -180,4 +191,23 @@ static void ask_marked(const lent *l, uint32_t a)
         f = AS(gillacorn_frame_step_answer, gillacorn_frame_next, gillacorn_frame_cursor, MARKED, MARKED)(f.cursor, GIVE_FRAMES(l));
         next_answer(), tell(f.code), tell_frame(&f.frame), tell(f.cursor.old_index), tell(f.cursor.new_index);
     }
+}
+
+/* ---- bundles: a file without a mark, and parts behind one ---- */
+
+static void ask_bundle_read(const lent *l)
+{
+    gillacorn_spans_answer b = AS(gillacorn_spans_answer, gillacorn_bundle_read, TABLE)(GIVE(l->bundle));
+    next_answer(), tell(b.code);
+    const gillacorn_span *spans = &b.spans.original_sections;
+    for (int i = 0; i < 6; i++)
+        tell(spans[i].present), tell(spans[i].start), tell(spans[i].length);
+}
+
+static void ask_bundle_write(const lent *l)
+{
+    gillacorn_bytes_answer b = AS(gillacorn_bytes_answer, gillacorn_bundle_write, MAP, MARKED, MARKED, uint8_t *, size_t)(GIVE_MAP(l), GIVE_FRAMES(l), l->bytes, l->bytes_room);
+    next_answer(), tell(b.code), tell(b.bytes);
+    for (size_t i = 0; i < l->bytes_room; i++)
+        tell(l->bytes[i]);
 }

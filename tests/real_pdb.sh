@@ -1,6 +1,7 @@
 #!/usr/bin/env bash
 # A PDB that others' tools made (clang and lld-link, 32-bit code): its frame data and its section
-# headers, decoded through the face and held beside what llvm-pdbutil says of them.
+# headers, decoded through the face and held beside what llvm-pdbutil says of them. Then a bundle of
+# both and of another PE file's section headers, out of which the same has to be read.
 # Exits with 77, after one line, where a tool is missing.
 set -euo pipefail
 . "$(dirname "$0")/../rust/lib.sh"
@@ -77,5 +78,50 @@ run sections --table headers | while read -r number name rest; do
 done >our.headers
 diff said.headers our.headers || { echo "real_pdb: section headers differ" >&2; exit 1; }
 
-[ -s our.frames ] && [ -s our.headers ] && [ -s our.report ]
+for some in our.frames our.headers our.report; do
+    [ -s "$some" ]
+done
 echo "real_pdb: $(wc -l <our.frames) frames and $(wc -l <our.headers) section headers, all as llvm-pdbutil has them"
+
+# ---- one bundle, by the command line
+
+build_cli
+differs() {
+    echo "real_pdb: $*, out of the bundle and not" >&2
+    exit 1
+}
+# Without debug data it has fewer sections, so that the two tables of headers can't stand for each other.
+lld-link /entry:mainCRTStartup /subsystem:console /nodefaultlib /out:other.exe some.obj
+number() { # at a place of other.exe, of this many bytes
+    od -An -v -t "u$2" -j "$1" -N "$2" other.exe | tr -d ' '
+}
+signature=$(number 60 4)
+optional=$(number $((signature + 20)) 2)
+dd if=other.exe of=pe.headers bs=1 status=none \
+    skip=$((signature + 24 + optional)) count=$((40 * $(number $((signature + 6)) 2)))
+if cmp -s headers pe.headers; then
+    echo "real_pdb: the two tables of headers are the same" >&2
+    exit 1
+fi
+
+run gillacorn bundle pack some.bundle --original-sections headers --transformed-sections pe.headers --new-frames new >packed
+run gillacorn bundle list some.bundle | diff packed - || differs "the list"
+
+# As the command line reads them, from the bundle and from the files.
+run gillacorn frames --new new >alone
+run gillacorn frames --bundle some.bundle | diff alone - || differs "frames"
+run gillacorn sections other.exe >alone
+run gillacorn sections some.bundle --part transformed-sections | diff alone - || differs "the PE file's headers"
+
+# As the readers above did: each part is what went in, and nothing else comes out.
+run gillacorn bundle unpack some.bundle parts >/dev/null
+run frames - parts/new-frames names | diff our.frames - || differs "frames, unpacked"
+run sections --table headers >alone
+run sections --table parts/original-sections | diff alone - || differs "the PDB's headers, unpacked"
+run sections other.exe >alone
+run sections --table parts/transformed-sections | diff alone - || differs "the PE file's headers, unpacked"
+cmp new parts/new-frames
+cmp headers parts/original-sections
+cmp pe.headers parts/transformed-sections
+[ "$(find parts -type f | wc -l)" -eq 3 ]
+echo "real_pdb: the same out of a bundle of $(wc -c <some.bundle) bytes"

@@ -2,9 +2,9 @@
 //! inner functions that native.sh gives C names.
 
 use gillacorn::ffi::{
-    Cursor, CursorAnswer, Flags, FrameAnswer, FrameCursor, FrameCursorAnswer, FrameStepAnswer,
-    HeaderAnswer, OffsetAnswer, PairAnswer, Piece, PiecesAnswer, QuickAnswer, RecordAnswer,
-    SourcesAnswer, StepAnswer, ValueAnswer,
+    BytesAnswer, Cursor, CursorAnswer, Flags, FrameAnswer, FrameCursor, FrameCursorAnswer,
+    FrameStepAnswer, HeaderAnswer, OffsetAnswer, PairAnswer, Piece, PiecesAnswer, QuickAnswer,
+    RecordAnswer, SourcesAnswer, SpansAnswer, StepAnswer, ValueAnswer,
 };
 
 /// Each function, with slices in place of a pointer and a length.
@@ -18,7 +18,9 @@ macro_rules! face {
     (given bytes) => { &[u8] };
     (given words) => { &mut [u32] };
     (given pieces) => { &mut [Piece] };
+    (given output) => { &mut [u8] };
     (given map) => { &[&[u8]; 4] };
+    (given parts) => { &[&[u8]; 6] };
     (given frames) => { &[&[u8]; 2] };
     (given $ty:ident) => { $ty };
 
@@ -29,6 +31,10 @@ macro_rules! face {
     };
     (call $name:ident $answer:ty; [$($d:tt)*]; [$($c:tt)*]; $arg:ident: words, $($rest:tt)*) => {
         face!(call $name $answer; [$($d)* _: *mut u32, _: usize,];
+            [$($c)* $arg.as_mut_ptr(), $arg.len(),]; $($rest)*)
+    };
+    (call $name:ident $answer:ty; [$($d:tt)*]; [$($c:tt)*]; $arg:ident: output, $($rest:tt)*) => {
+        face!(call $name $answer; [$($d)* _: *mut u8, _: usize,];
             [$($c)* $arg.as_mut_ptr(), $arg.len(),]; $($rest)*)
     };
     (call $name:ident $answer:ty; [$($d:tt)*]; [$($c:tt)*]; $arg:ident: pieces, $($rest:tt)*) => {
@@ -47,6 +53,16 @@ macro_rules! face {
                 _: bool, _: *const u8, _: usize, _: bool, _: *const u8, _: usize,];
             [$($c)* true, $arg[0].as_ptr(), $arg[0].len(), true, $arg[1].as_ptr(), $arg[1].len(),
                 true, $arg[2].as_ptr(), $arg[2].len(), true, $arg[3].as_ptr(), $arg[3].len(),];
+            $($rest)*)
+    };
+    (call $name:ident $answer:ty; [$($d:tt)*]; [$($c:tt)*]; $arg:ident: parts, $($rest:tt)*) => {
+        face!(call $name $answer;
+            [$($d)* _: bool, _: *const u8, _: usize, _: bool, _: *const u8, _: usize,
+                _: bool, _: *const u8, _: usize, _: bool, _: *const u8, _: usize,
+                _: bool, _: *const u8, _: usize, _: bool, _: *const u8, _: usize,];
+            [$($c)* true, $arg[0].as_ptr(), $arg[0].len(), true, $arg[1].as_ptr(), $arg[1].len(),
+                true, $arg[2].as_ptr(), $arg[2].len(), true, $arg[3].as_ptr(), $arg[3].len(),
+                true, $arg[4].as_ptr(), $arg[4].len(), true, $arg[5].as_ptr(), $arg[5].len(),];
             $($rest)*)
     };
     (call $name:ident $answer:ty; [$($d:tt)*]; [$($c:tt)*]; $arg:ident: $ty:ident, $($rest:tt)*) => {
@@ -98,6 +114,9 @@ face! {
     gillacorn_frame_next(cursor: FrameCursor, tables: frames) -> FrameStepAnswer;
     gillacorn_frames_at(address: u32, tables: frames) -> FrameCursorAnswer;
     gillacorn_frames_empty(tables: frames) -> ValueAnswer;
+
+    gillacorn_bundle_read(file: bytes) -> SpansAnswer;
+    gillacorn_bundle_write(tables: parts, out: output) -> BytesAnswer;
 }
 
 #[cfg(inner = "order")]

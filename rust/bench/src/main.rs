@@ -2,6 +2,7 @@
 //! prints the tables of docs/PERFORMANCE.md. A word measures only the rows that have it in their text.
 
 mod addresses;
+mod bundles;
 mod clashes;
 mod driver;
 mod face;
@@ -21,6 +22,7 @@ fn main() -> ExitCode {
     clashes::run(&mut driver);
     addresses::run(&mut driver);
     frames::run(&mut driver);
+    bundles::run(&mut driver);
     if !driver.end() {
         eprintln!("bench: no row has this in its text");
         return ExitCode::from(2);

@@ -129,6 +129,14 @@ impl<T: Put, const N: usize> Put for [T; N] {
     }
 }
 
+/// An answer of an operation that is in no replay.
+#[derive(Debug, PartialEq)]
+pub struct Unkept<T>(pub T);
+
+impl<T> Put for Unkept<T> {
+    fn put(&self, _: &mut Vec<u8>) {}
+}
+
 impl Put for Frame {
     fn put(&self, out: &mut Vec<u8>) {
         out.push(self.ty as u8);

@@ -6,7 +6,7 @@ use std::fmt::{Debug, Display};
 use gillacorn::{FrameTable, OMAPTable, SectionTable};
 use oracle::{FallibleIterator, Tables};
 
-use crate::case::Put;
+use crate::case::Unkept;
 use crate::gen;
 use crate::operations::{Judge, Op};
 use crate::rng::Rng;
@@ -96,12 +96,4 @@ fn all(value: impl Debug) -> String {
 fn same<T: Debug + PartialEq>(tally: &mut Tally, theirs: T, ours: T) {
     let (theirs, ours) = (Unkept(theirs), Unkept(ours));
     tally.check(Op::Formats, Judge::Rust, &theirs, &ours, |_| {});
-}
-
-/// Not replayed: no table is read.
-#[derive(Debug, PartialEq)]
-struct Unkept<T>(T);
-
-impl<T> Put for Unkept<T> {
-    fn put(&self, _: &mut Vec<u8>) {}
 }

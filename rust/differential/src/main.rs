@@ -1,6 +1,7 @@
 //! Gillacorn and pdb on the same inputs. See `USAGE`.
 
 mod addresses;
+mod bundles;
 mod case;
 mod clashes;
 mod formats;
@@ -32,6 +33,7 @@ differential [--seed N] [--inputs N | --inputs GROUP=N | --gate | --full] [--onl
     --gate      the size of the gate: 60,000 to each group
     --full      the full size: 10,000,000 questions or more in all
     --only      some groups: headers omap (lookups, windows, cursors) lists clashes addresses frames formats
+                bundles
     --replay    write a sample of the answers to a file, once all of them agree";
 
 /// A group: its name, how many questions the full size asks, and what asks them.
@@ -45,6 +47,7 @@ const GROUPS: &[Group] = &[
     ("addresses", 2_500_000, addresses::run),
     ("frames", 1_500_000, frames::run),
     ("formats", 5_000, formats::run),
+    ("bundles", 400_000, bundles::run),
 ];
 
 struct Words {

@@ -57,6 +57,8 @@ operations! {
     FramesAt = 18, "frames from an address";
     FramesEmpty = 19, "is_empty";
     Formats = 104, "Debug, Display, order (the wrapper's)";
+    BundleRead = 105, "bundle read";
+    BundleWrite = 106, "bundle write";
 }
 
 /// Who says what is right.
@@ -64,7 +66,7 @@ operations! {
 pub enum Judge {
     /// pdb, inside the domain of equality.
     Rust,
-    /// Document 01's rules, for refusals and outside the domain.
+    /// The documents' rules, for refusals, outside the domain, and for bundles.
     Rules,
     /// A count over every address, for what pdb lacks.
     Count,
