@@ -7,8 +7,8 @@ use native.Mathlib.Omega.{arith}
 use mathlib.Core.Bool.{Bool, true, false, cond, _&&_}
 use mathlib.Core.List.{List, [], _∷_, _++_, map}
 use mathlib.Core.Option.{Option, none, some}
-use lib.ListN.{length, take, drop, take-append-drop}
-use lib.Seq.{take-append-seam, drop-append-add, drop-drop}
+use lib.ListN.{length, take, drop, replicate, take-append-drop}
+use lib.Seq.{take-append-seam, drop-append-seam, drop-append-add, drop-drop}
 use lib.Dec.{leb, eqb}
 use borrow.Author.Tests.{leb-true, eqb-true}
 use Rattle.lent.specs.Le.{leAt, leBytes}
@@ -196,8 +196,8 @@ unfolding writeSpec roomFor
 was-written p room n e = go (leb (length (bundleOf p)) 4294967295) (leb (length (bundleOf p)) room) refl refl e
   where
     go : (t u : Bool) → leb (length (bundleOf p)) 4294967295 ≡ t → leb (length (bundleOf p)) room ≡ u
-        → unlessFault (cond t none (some 4)) (cond u (counted (length (bundleOf p))) (refusedFor 5 (length (bundleOf p))))
-        ≡ counted n
+        → unlessFault (cond t none (some 4))
+        (cond u (counted (length (bundleOf p))) (refusedFor 5 (length (bundleOf p)))) ≡ counted n
         → (length (bundleOf p) ≤ 4294967295) × ((length (bundleOf p) ≤ room) × (n ≡ length (bundleOf p)))
     go true true a b e =
         let m : _≡_ {A = Written} (counted (length (bundleOf p))) (counted n) = e in
@@ -219,6 +219,14 @@ read-written p out n e =
     let w = was-written p (length out) n e in
     rw (e, w .1 .1, take-append-seam (bundleOf p) (drop (length (bundleOf p)) out)) (bundle-read p (w .0))
 
+-- And what stands in the output past those n bytes is what stood there.
+pub rest-stays : (p : Parts) (out : List ℕ) (n : ℕ) → writeSpec p (length out) ≡ counted n
+    → drop n (writeOut p out) ≡ drop n out
+unfolding writeOut
+rest-stays p out n e =
+    let w = was-written p (length out) n e in
+    rw (e, w .1 .1) (drop-append-seam (bundleOf p) (drop (length (bundleOf p)) out))
+
 -- no part is present
 abbrev pub noPart : Parts
 noPart = record {
@@ -231,7 +239,6 @@ noPart = record {
 }
 
 -- With no part present the bundle is the trailer of six absent parts, and has 56 bytes.
-pub none-is-the-trailer : (bundleOf noPart ≡ trailer (Absent ∷ (Absent ∷ (Absent ∷ (Absent ∷ (Absent ∷ (Absent ∷ [])))))))
-    × (length (bundleOf noPart) ≡ 56)
+pub none-is-the-trailer : (bundleOf noPart ≡ trailer (replicate 6 Absent)) × (length (bundleOf noPart) ≡ 56)
 unfolding bundleOf joined spansFrom
 none-is-the-trailer = (refl, length-bundle noPart)

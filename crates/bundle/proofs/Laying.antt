@@ -26,14 +26,15 @@ use Rattle.bundle.proofs.Lengths.{length-fields}
 pub laid-touch : (p : ℕ) (l : List (Option (List ℕ))) → touching p (p + length (joined l)) (spansFrom p l) ≡ true
 unfolding touching joined spansFrom
 laid-touch p [] = eq-eqb p (p + 0) (omega arith)
-laid-touch p (none ∷ l) = laid-touch p l
+laid-touch p (none ∷ l) = rw (add-zero p) (laid-touch p l)
 laid-touch p (some part ∷ l) =
     let e : p + length (part ++ joined l) ≡ p + length part + length (joined l) =
     omega (arith, length-append part (joined l)) in
     rw (eq-eqb p p refl, e) (laid-touch (p + length part) l)
 
 -- the part that lies between others
-between : (before part after : List ℕ) → partIn (before ++ (part ++ after)) (At (length before) (length part)) ≡ some part
+between : (before part after : List ℕ)
+    → partIn (before ++ (part ++ after)) (At (length before) (length part)) ≡ some part
 unfolding partIn bytesOf
 between before part after =
     let n : length before + length part ≤ length (before ++ (part ++ after)) =
@@ -49,7 +50,8 @@ pub laid-read : (before : List ℕ) (l : List (Option (List ℕ))) (after : List
     → map (partIn (before ++ (joined l ++ after))) (spansFrom (length before) l) ≡ l
 unfolding joined spansFrom partIn
 laid-read before [] after = refl
-laid-read before (none ∷ l) after = ap (λ (r : List (Option (List ℕ))). none ∷ r) (laid-read before l after)
+laid-read before (none ∷ l) after =
+    rw (add-zero (length before)) (ap (λ (r : List (Option (List ℕ))). none ∷ r) (laid-read before l after))
 laid-read before (some part ∷ l) after =
     let behind : List ℕ = joined l ++ after in
     let spans : List Span = spansFrom (length before + length part) l in
@@ -72,7 +74,7 @@ touch-laid s e h [] p t =
     (omega arith, (refl, rw z))
 touch-laid s e h (Absent ∷ l) p t =
     let r = touch-laid s e h l p t in
-    (r .0, (ap (λ (k : List Span). Absent ∷ k) (r .1 .0), r .1 .1))
+    (r .0, (rw (add-zero p) (ap (λ (k : List Span). Absent ∷ k) (r .1 .0)), r .1 .1))
 touch-laid s e h (At start size ∷ l) p t =
     let q : start ≡ p = eqb-true start p (and-left (eqb start p) (touching (p + size) e l) t) in
     let r = touch-laid s e h l (p + size) (and-right (eqb start p) (touching (p + size) e l) t) in
@@ -80,7 +82,8 @@ touch-laid s e h (At start size ∷ l) p t =
     let inside : size ≤ length (drop p s) = omega (arith, length-drop p s) in
     let long : length (take size (drop p s)) ≡ size = length-take-le size (drop p s) inside in
     let split : e - p ≡ size + (e - (p + size)) = omega (arith, r .0) in
-    let both : take (size + (e - (p + size))) (drop p s) ≡ take size (drop p s) ++ take (e - (p + size)) (drop (p + size) s) =
+    let both : take (size + (e - (p + size))) (drop p s)
+    ≡ take size (drop p s) ++ take (e - (p + size)) (drop (p + size) s) =
     rw (← (drop-drop size p s)) (take-add size (e - (p + size)) (drop p s)) in (
       omega (arith, r .0),
       rw (q, le-leb (p + size) (length s) within, long) (

@@ -1,20 +1,20 @@
 -- How long a bundle is, and its parts behind their marks.
 -- Assumes nothing.
 use mathlib.Core.Path.{_≡_, refl, ap, _∙_}
-use Prim.Native.Nat.{ℕ, zero, suc, _+_, _*_, min}
-use native.Mathlib.Nat.{add-zero, zero-add}
+use Prim.Native.Nat.{ℕ, suc, _+_, _-_, _*_, min}
 use native.Mathlib.Omega.{arith}
 use mathlib.Core.Bool.{Bool, true, false, cond}
-use mathlib.Core.List.{List, [], _∷_, _++_, append-nil}
-use mathlib.Core.Option.{Option, none, some}
+use mathlib.Core.List.{List, [], _∷_, _++_}
+use mathlib.Core.Option.{Option}
 use lib.ListN.{length, length-append}
 use Rattle.lent.specs.Le.{leBytes}
 use Rattle.lent.specs.Table.{ifPresent}
 use Rattle.lent.proofs.Encoded.{length-le}
 use Rattle.bundle.specs.declared.Span.{Span}
 use Rattle.bundle.specs.declared.Span.the-variants.{Absent, At}
-use Rattle.bundle.specs.Layout.{Parts, inOrder, joined, spansFrom, fields, allFields, mark, trailer, bundleOf}
-use Rattle.bundle.specs.Writing.{partOf, lentParts}
+use Rattle.bundle.specs.Layout.{Parts, inOrder, bytesIn, spanFrom, joined, spansFrom}
+use Rattle.bundle.specs.Layout.{fields, allFields, mark, trailer, bundleOf}
+use Rattle.bundle.specs.Writing.{partOf}
 
 two-fields : (m n : ℕ) → length (leBytes 4 m ++ leBytes 4 n) ≡ 8
 two-fields m n = length-append (leBytes 4 m) (leBytes 4 n) ∙ omega (arith, length-le 4 m, length-le 4 n)
@@ -33,8 +33,7 @@ length-all-fields (x ∷ l) =
 pub length-spans : (p : ℕ) (l : List (Option (List ℕ))) → length (spansFrom p l) ≡ length l
 unfolding spansFrom
 length-spans p [] = refl
-length-spans p (none ∷ l) = ap suc (length-spans p l)
-length-spans p (some part ∷ l) = ap suc (length-spans (p + length part) l)
+length-spans p (x ∷ l) = ap suc (length-spans (p + length (bytesIn x)) l)
 
 pub length-end : length (leBytes 4 1 ++ mark) ≡ 8
 length-end = length-append (leBytes 4 1) mark ∙ omega (arith, length-le 4 1)
@@ -51,79 +50,52 @@ length-bundle p =
     length-append (joined (inOrder p)) (trailer (spansFrom 0 (inOrder p)))
     ∙ omega (arith, length-spans 0 (inOrder p))
 
--- a part behind its mark, before others
-module _ (s : List ℕ) (l : List (Option (List ℕ))) where
-  joined-marked : (present : Bool) → joined (partOf present s ∷ l) ≡ ifPresent present s ++ joined l
-  unfolding joined
-  joined-marked true = refl
-  joined-marked false = refl
+-- the length of six parts is the sum of theirs
+pub joined-lengths : (p : Parts) → length (joined (inOrder p)) ≡ length (bytesIn (p .originalSections))
+    + (length (bytesIn (p .transformedSections))
+    + (length (bytesIn (p .toOriginal))
+    + (length (bytesIn (p .toTransformed)) + (length (bytesIn (p .oldFrames)) + length (bytesIn (p .newFrames))))))
+unfolding joined
+joined-lengths p =
+    let six = length-append (bytesIn (p .newFrames)) [] in
+    let five : List (Option (List ℕ)) = p .newFrames ∷ [] in
+    let four : List (Option (List ℕ)) = p .oldFrames ∷ five in
+    let three : List (Option (List ℕ)) = p .toTransformed ∷ four in
+    let two : List (Option (List ℕ)) = p .toOriginal ∷ three in
+    let one : List (Option (List ℕ)) = p .transformedSections ∷ two in
+    omega (
+      arith,
+      six,
+      length-append (bytesIn (p .oldFrames)) (joined five),
+      length-append (bytesIn (p .toTransformed)) (joined four),
+      length-append (bytesIn (p .toOriginal)) (joined three),
+      length-append (bytesIn (p .transformedSections)) (joined two),
+      length-append (bytesIn (p .originalSections)) (joined one),
+    )
 
-  spans-marked : (present : Bool) (p : ℕ) → spansFrom p (partOf present s ∷ l)
-      ≡ cond present (At p (length s)) Absent ∷ spansFrom (p + length (ifPresent present s)) l
-  unfolding spansFrom
-  spans-marked true p = refl
-  spans-marked false p = rw (add-zero p)
+-- a part behind its mark
+module _ (s : List ℕ) where
+  pub bytes-marked : (present : Bool) → bytesIn (partOf present s) ≡ ifPresent present s
+  bytes-marked true = refl
+  bytes-marked false = refl
 
--- six lent parts
-module _ (a : Bool) (r : List ℕ) (b : Bool) (s : List ℕ) (c : Bool) (t : List ℕ) (d : Bool) (u : List ℕ) (e : Bool)
-    (v : List ℕ) (f : Bool) (w : List ℕ) where
-  abbrev pub given : Parts
-  given = lentParts a r b s c t d u e v f w
+  pub span-marked : (present : Bool) (from to : ℕ) → to ≡ from + length (bytesIn (partOf present s))
+      → cond present (At from (to - from)) Absent ≡ spanFrom from (partOf present s)
+  span-marked true from to e =
+      let n : to - from ≡ length s = omega arith in
+      rw n
+  span-marked false from to e = refl
 
-  pub joined-six : joined (inOrder given) ≡ ifPresent a r
-      ++ (ifPresent b s ++ (ifPresent c t ++ (ifPresent d u ++ (ifPresent e v ++ ifPresent f w))))
-  unfolding joined
-  joined-six =
-      rw (
-        joined-marked r (partOf b s ∷ (partOf c t ∷ (partOf d u ∷ (partOf e v ∷ (partOf f w ∷ []))))) a,
-        joined-marked s (partOf c t ∷ (partOf d u ∷ (partOf e v ∷ (partOf f w ∷ [])))) b,
-        joined-marked t (partOf d u ∷ (partOf e v ∷ (partOf f w ∷ []))) c,
-        joined-marked u (partOf e v ∷ (partOf f w ∷ [])) d,
-        joined-marked v (partOf f w ∷ []) e,
-        joined-marked w [] f,
-        append-nil (ifPresent f w),
-      )
-
-  pub joined-lengths : length (joined (inOrder given)) ≡ length (ifPresent a r)
-      + (length (ifPresent b s)
-      + (length (ifPresent c t) + (length (ifPresent d u) + (length (ifPresent e v) + length (ifPresent f w)))))
-  joined-lengths =
-      ap length joined-six
-      ∙ omega (
-        arith,
-        length-append (ifPresent a r)
-            (ifPresent b s ++ (ifPresent c t ++ (ifPresent d u ++ (ifPresent e v ++ ifPresent f w)))),
-        length-append (ifPresent b s) (ifPresent c t ++ (ifPresent d u ++ (ifPresent e v ++ ifPresent f w))),
-        length-append (ifPresent c t) (ifPresent d u ++ (ifPresent e v ++ ifPresent f w)),
-        length-append (ifPresent d u) (ifPresent e v ++ ifPresent f w),
-        length-append (ifPresent e v) (ifPresent f w),
-      )
-
-  pub spans-six : spansFrom 0 (inOrder given)
-      ≡ cond a (At 0 (length r)) Absent
-      ∷ (cond b (At (length (ifPresent a r)) (length s)) Absent
-      ∷ (cond c (At (length (ifPresent a r) + length (ifPresent b s)) (length t)) Absent
-      ∷ (cond d (At (length (ifPresent a r) + length (ifPresent b s) + length (ifPresent c t)) (length u)) Absent
-      ∷ (cond e (At (length (ifPresent a r) + length (ifPresent b s) + length (ifPresent c t) + length (ifPresent d u))
-      (length v)) Absent
-      ∷ (cond f (At (length (ifPresent a r) + length (ifPresent b s) + length (ifPresent c t) + length (ifPresent d u)
-      + length (ifPresent e v)) (length w)) Absent ∷ [])))))
-  unfolding spansFrom
-  spans-six =
-      rw (
-        spans-marked r (partOf b s ∷ (partOf c t ∷ (partOf d u ∷ (partOf e v ∷ (partOf f w ∷ []))))) a 0,
-        zero-add (length (ifPresent a r)),
-        spans-marked s (partOf c t ∷ (partOf d u ∷ (partOf e v ∷ (partOf f w ∷ [])))) b (length (ifPresent a r)),
-        spans-marked t (partOf d u ∷ (partOf e v ∷ (partOf f w ∷ []))) c
-            (length (ifPresent a r) + length (ifPresent b s)),
-        spans-marked u (partOf e v ∷ (partOf f w ∷ [])) d
-            (length (ifPresent a r) + length (ifPresent b s) + length (ifPresent c t)),
-        spans-marked v (partOf f w ∷ []) e
-            (length (ifPresent a r) + length (ifPresent b s) + length (ifPresent c t) + length (ifPresent d u)),
-        spans-marked w [] f
-            (length (ifPresent a r) + length (ifPresent b s) + length (ifPresent c t) + length (ifPresent d u)
-            + length (ifPresent e v)),
-      )
+-- six parts, the first at place 0 and each other one where the one before it ends
+pub six-spans : (p : Parts) (a b c d e : ℕ) → a ≡ 0 + length (bytesIn (p .originalSections))
+    → b ≡ a + length (bytesIn (p .transformedSections)) → c ≡ b + length (bytesIn (p .toOriginal))
+    → d ≡ c + length (bytesIn (p .toTransformed)) → e ≡ d + length (bytesIn (p .oldFrames))
+    → spansFrom 0 (inOrder p) ≡ spanFrom 0 (p .originalSections)
+    ∷ (spanFrom a (p .transformedSections)
+    ∷ (spanFrom b (p .toOriginal)
+    ∷ (spanFrom c (p .toTransformed) ∷ (spanFrom d (p .oldFrames) ∷ (spanFrom e (p .newFrames) ∷ [])))))
+unfolding spansFrom
+six-spans p a b c d e f g h i j = rw (j, i, h, g, f)
 
 -- one more length, where lengths are added up to a bound
 pub one-more : (x y n r : ℕ) → n ≡ min 4294967296 x → r ≡ min 4294967296 (n + y) → r ≡ min 4294967296 (x + y)

@@ -92,13 +92,15 @@ one-span before x l after n e =
 
 -- spans of parts that 32 bits count are read as they were written
 pub spans-read : (before : List ℕ) (p : ℕ) (l : List (Option (List ℕ))) (after : List ℕ)
-    → p + length (joined l) < 4294967295 → spansBehind before (allFields (spansFrom p l) ++ after) (length l) ≡ spansFrom p l
+    → p + length (joined l) < 4294967295
+    → spansBehind before (allFields (spansFrom p l) ++ after) (length l) ≡ spansFrom p l
 unfolding joined spansFrom allFields listed
 spans-read before p [] after h = refl
 spans-read before p (none ∷ l) after h =
-    one-span before Absent (allFields (spansFrom p l)) after (length l)
+    rw (add-zero p)
+    (one-span before Absent (allFields (spansFrom p l)) after (length l)
     (absent-read before (allFields (spansFrom p l) ++ after))
-    ∙ ap (λ (k : List Span). Absent ∷ k) (spans-read (before ++ fields Absent) p l after h)
+    ∙ ap (λ (k : List Span). Absent ∷ k) (spans-read (before ++ fields Absent) p l after h))
 spans-read before p (some part ∷ l) after h =
     let x : Span = At p (length part) in
     let rest : List Span = spansFrom (p + length part) l in
@@ -112,7 +114,8 @@ fields-of : (m n : ℕ) → fields (spanOf m n) ≡ leBytes 4 m ++ leBytes 4 n
 unfolding spanOf fields
 fields-of m n = go (eqb m 4294967295 && eqb n 4294967295) refl
   where
-    go : (t : Bool) → (eqb m 4294967295 && eqb n 4294967295) ≡ t → fields (cond t Absent (At m n)) ≡ leBytes 4 m ++ leBytes 4 n
+    go : (t : Bool) → (eqb m 4294967295 && eqb n 4294967295) ≡ t
+        → fields (cond t Absent (At m n)) ≡ leBytes 4 m ++ leBytes 4 n
     go true e =
         let a : m ≡ 4294967295 = eqb-true m 4294967295 (and-left (eqb m 4294967295) (eqb n 4294967295) e) in
         let b : n ≡ 4294967295 = eqb-true n 4294967295 (and-right (eqb m 4294967295) (eqb n 4294967295) e) in

@@ -56,5 +56,9 @@ module _ (p : Parts) (out : List ℕ) (n : ℕ) (e : n ≡ min 4294967296 (lengt
           let fitting : length (bundleOf p) ≤ 4294967295 = omega (arith, whole) in
           let enough : length (bundleOf p) ≤ length out = omega (arith, whole) in
           answered p out (counted r)
-          (rw (le-leb (length (bundleOf p)) 4294967295 fitting, le-leb (length (bundleOf p)) (length out) enough, length-is))
+          (rw (
+            le-leb (length (bundleOf p)) 4294967295 fitting,
+            le-leb (length (bundleOf p)) (length out) enough,
+            length-is,
+          ))
           after (w .bytes ∙ front (bundleOf p) out enough)

@@ -22,17 +22,25 @@ inOrder p =
     p .originalSections
     ∷ (p .transformedSections ∷ (p .toOriginal ∷ (p .toTransformed ∷ (p .oldFrames ∷ (p .newFrames ∷ [])))))
 
+-- the bytes of a part; an absent one has none
+abbrev pub bytesIn : Option (List ℕ) → List ℕ
+bytesIn none = []
+bytesIn (some part) = part
+
+-- where a part lies that begins at place p
+abbrev pub spanFrom : ℕ → Option (List ℕ) → Span
+spanFrom p none = Absent
+spanFrom p (some part) = At p (length part)
+
 -- the present parts, one after the other
 unfoldable pub joined : List (Option (List ℕ)) → List ℕ
 joined [] = []
-joined (none ∷ l) = joined l
-joined (some part ∷ l) = part ++ joined l
+joined (x ∷ l) = bytesIn x ++ joined l
 
--- where each part lies, if the first present one begins at place p and each other one where the one before it ends
+-- where each part lies, the first from place p on, and each other one where the one before it ends
 unfoldable pub spansFrom : ℕ → List (Option (List ℕ)) → List Span
 spansFrom p [] = []
-spansFrom p (none ∷ l) = Absent ∷ spansFrom p l
-spansFrom p (some part ∷ l) = At p (length part) ∷ spansFrom (p + length part) l
+spansFrom p (x ∷ l) = spanFrom p x ∷ spansFrom (p + length (bytesIn x)) l
 
 -- start and length, as u32; for an absent part both FFFFFFFF
 unfoldable pub fields : Span → List ℕ

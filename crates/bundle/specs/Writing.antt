@@ -14,7 +14,8 @@ use Rattle.bundle.specs.Reading.{lengthFault}
 abbrev pub partOf : Bool → List ℕ → Option (List ℕ)
 partOf present s = cond present (some s) none
 
-abbrev pub lentParts : Bool → List ℕ → Bool → List ℕ → Bool → List ℕ → Bool → List ℕ → Bool → List ℕ → Bool → List ℕ → Parts
+abbrev pub lentParts : Bool → List ℕ → Bool → List ℕ → Bool → List ℕ → Bool → List ℕ → Bool → List ℕ → Bool → List ℕ
+    → Parts
 lentParts a r b s c t d u e v f w = record {
   originalSections = partOf a r;
   transformedSections = partOf b s;

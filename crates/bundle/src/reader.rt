@@ -3,7 +3,8 @@ ghost use mathlib.Core.Path.{_≡_};
 ghost use Prim.Native.Nat.{_+_, _≤_};
 ghost use lib.ListN.{length, drop};
 ghost use Rattle.bundle.specs.Layout.{mark};
-ghost use Rattle.bundle.specs.Reading.{spanOf, spanAt, spansAt, spanList, touching, same, readSpec, toldOpened, bytesOf};
+ghost use Rattle.bundle.specs.Reading.{spanOf, spanAt, spansAt, spanList, touching, same};
+ghost use Rattle.bundle.specs.Reading.{readSpec, toldOpened, bytesOf};
 use crate::ABSENT;
 use crate::MARK;
 use crate::MOST;
@@ -126,8 +127,8 @@ pub fn read(file: &[u8]) -> Opened
     Opened::NotABundle
 }
 
-// The bytes of a part, in the file itself: none where it is absent, or where a span that no reader gave reaches past the
-// file.
+// The bytes of a part, in the file itself: none where it is absent, or where a span that was not read from this file
+// reaches past it.
 pub fn bytes_of(file: &[u8], span: Span) -> &[u8]
     ensures { λ r. ⌜ now r ≡ bytesOf (now (file .entry)) span ⌝ }
 {

@@ -2,15 +2,14 @@
 ghost use mathlib.Core.Path.{_≡_};
 ghost use mathlib.Core.Bool.{cond};
 ghost use mathlib.Core.List.{_++_};
-ghost use Prim.Native.Nat.{_+_, _≤_, min};
+ghost use Prim.Native.Nat.{_+_, _-_, _≤_, min};
 ghost use lib.ListN.{length};
 ghost use Rattle.lent.specs.Le.{leBytes};
 ghost use Rattle.lent.specs.Room.{Wrote};
-ghost use Rattle.lent.specs.Table.{ifPresent};
 ghost use Rattle.bundle.specs.declared.Span.the-variants.{Absent, At};
-ghost use Rattle.bundle.specs.Layout.{inOrder, joined, spansFrom, fields, trailer, bundleOf};
+ghost use Rattle.bundle.specs.Layout.{inOrder, bytesIn, joined, spansFrom, fields, trailer, bundleOf};
 ghost use Rattle.bundle.specs.Reading.{spanList};
-ghost use Rattle.bundle.specs.Writing.{lentParts, writeSpec, writeOut, toldPacked};
+ghost use Rattle.bundle.specs.Writing.{partOf, lentParts, writeSpec, writeOut, toldPacked};
 use crate::ABSENT;
 use crate::MARK;
 use crate::MOST;
@@ -32,13 +31,19 @@ pub enum Packed {
     Short(usize),
 }
 
+// Where the parts of a bundle lie, and where the last of them ends.
+struct Placed {
+    spans: Spans,
+    end: usize,
+}
+
 // One more than 32 bits count: where lengths are added up, every longer one is this.
 const PAST: usize = 4294967296;
 
 // A length with a part added to it. Nothing wraps: six lengths of 64 bits may be lent.
 fn longer(before: usize, present: bool, part: &[u8]) -> usize
     requires { ⌜ before ≤ 4294967296 ⌝ }
-    ensures { λ r. ⌜ r ≡ min 4294967296 (before + length (ifPresent present (now (part .entry)))) ⌝ }
+    ensures { λ r. ⌜ r ≡ min 4294967296 (before + length (bytesIn (partOf present (now (part .entry))))) ⌝ }
 {
     let size = if_present(present, part).len();
     if size < PAST - before {
@@ -79,76 +84,27 @@ fn whole_length<'s>(
     longer(e, has_new_frames, new_frames)
 }
 
-// Where a part lies that begins at `place`, if it is present.
-fn span_from(place: usize, present: bool, part: &[u8]) -> Span
-    requires { ⌜ place + length (ifPresent present (now part)) ≤ 4294967295 ⌝ }
-    ensures { λ r. ⌜ r ≡ cond present (At place (length (now (part .entry)))) Absent ⌝ }
+// A part's bytes, where it is present.
+fn put_part(present: bool, part: &[u8], out: &mut [u8], at: usize) -> usize
+    requires { ⌜ at + length (bytesIn (partOf present (now part))) ≤ length (now out) ⌝ }
+    ensures { λ r. ⌜ Wrote (bytesIn (partOf present (now (part .entry)))) (now (out .entry)) at r (now (out .exit)) ⌝ }
+{
+    put_bytes(if_present(present, part), out, at)
+}
+
+// Where a part lies that was written from one place up to another.
+fn span_between(present: bool, from: usize, to: usize) -> Span
+    requires { ⌜ (from ≤ to) × (to ≤ 4294967295) ⌝ }
+    ensures { λ r. ⌜ r ≡ cond present (At from (to - from)) Absent ⌝ }
 {
     if present {
-        Span::At(place as u32, part.len() as u32)
+        Span::At(from as u32, (to - from) as u32)
     } else {
         Span::Absent
     }
 }
 
-// Where the parts of a bundle lie that 32 bits count.
-fn laid<'s>(
-    has_original_sections: bool,
-    original_sections: &'s [u8],
-    has_transformed_sections: bool,
-    transformed_sections: &'s [u8],
-    has_to_original: bool,
-    to_original: &'s [u8],
-    has_to_transformed: bool,
-    to_transformed: &'s [u8],
-    has_old_frames: bool,
-    old_frames: &'s [u8],
-    has_new_frames: bool,
-    new_frames: &'s [u8],
-) -> Spans
-    requires { ⌜
-        length (joined (inOrder
-        (lentParts «has_original_sections» (now «original_sections») «has_transformed_sections»
-        (now «transformed_sections») «has_to_original» (now «to_original») «has_to_transformed»
-        (now «to_transformed») «has_old_frames» (now «old_frames») «has_new_frames» (now «new_frames»))))
-        ≤ 4294967295
-        ⌝ }
-    ensures { λ r. ⌜
-        spanList r ≡ spansFrom 0 (inOrder
-        (lentParts «has_original_sections» (now («original_sections» .entry)) «has_transformed_sections»
-        (now («transformed_sections» .entry)) «has_to_original» (now («to_original» .entry)) «has_to_transformed»
-        (now («to_transformed» .entry)) «has_old_frames» (now («old_frames» .entry)) «has_new_frames»
-        (now («new_frames» .entry))))
-        ⌝ }
-{
-    let a = if_present(has_original_sections, original_sections).len();
-    let b = if_present(has_transformed_sections, transformed_sections).len();
-    let c = if_present(has_to_original, to_original).len();
-    let d = if_present(has_to_transformed, to_transformed).len();
-    let e = if_present(has_old_frames, old_frames).len();
-    let third = a + b;
-    let fourth = third + c;
-    let fifth = fourth + d;
-    let sixth = fifth + e;
-    Spans {
-        original_sections: span_from(0, has_original_sections, original_sections),
-        transformed_sections: span_from(a, has_transformed_sections, transformed_sections),
-        to_original: span_from(third, has_to_original, to_original),
-        to_transformed: span_from(fourth, has_to_transformed, to_transformed),
-        old_frames: span_from(fifth, has_old_frames, old_frames),
-        new_frames: span_from(sixth, has_new_frames, new_frames),
-    }
-}
-
-// A part's bytes, where it is present.
-fn put_part(present: bool, part: &[u8], out: &mut [u8], at: usize) -> usize
-    requires { ⌜ at + length (ifPresent present (now part)) ≤ length (now out) ⌝ }
-    ensures { λ r. ⌜ Wrote (ifPresent present (now (part .entry))) (now (out .entry)) at r (now (out .exit)) ⌝ }
-{
-    put_bytes(if_present(present, part), out, at)
-}
-
-// The present parts, one after the other.
+// The present parts, one after the other; where each lies, and where the trailer begins.
 fn put_parts<'s>(
     has_original_sections: bool,
     original_sections: &'s [u8],
@@ -163,13 +119,18 @@ fn put_parts<'s>(
     has_new_frames: bool,
     new_frames: &'s [u8],
     out: &mut [u8],
-) -> usize
+) -> Placed
     requires { ⌜
-        length (joined (inOrder
+        (length (joined (inOrder
         (lentParts «has_original_sections» (now «original_sections») «has_transformed_sections»
         (now «transformed_sections») «has_to_original» (now «to_original») «has_to_transformed»
         (now «to_transformed») «has_old_frames» (now «old_frames») «has_new_frames» (now «new_frames»))))
-        ≤ length (now out)
+        ≤ length (now out))
+        × (length (joined (inOrder
+        (lentParts «has_original_sections» (now «original_sections») «has_transformed_sections»
+        (now «transformed_sections») «has_to_original» (now «to_original») «has_to_transformed»
+        (now «to_transformed») «has_old_frames» (now «old_frames») «has_new_frames» (now «new_frames»))))
+        ≤ 4294967295)
         ⌝ }
     ensures { λ r. ⌜
         Wrote (joined (inOrder
@@ -177,7 +138,14 @@ fn put_parts<'s>(
         (now («transformed_sections» .entry)) «has_to_original» (now («to_original» .entry)) «has_to_transformed»
         (now («to_transformed» .entry)) «has_old_frames» (now («old_frames» .entry)) «has_new_frames»
         (now («new_frames» .entry)))))
-        (now (out .entry)) 0 r (now (out .exit))
+        (now (out .entry)) 0 (r .end) (now (out .exit))
+        ⌝ }
+    ensures { λ r. ⌜
+        spanList (r .spans) ≡ spansFrom 0 (inOrder
+        (lentParts «has_original_sections» (now («original_sections» .entry)) «has_transformed_sections»
+        (now («transformed_sections» .entry)) «has_to_original» (now («to_original» .entry)) «has_to_transformed»
+        (now («to_transformed» .entry)) «has_old_frames» (now («old_frames» .entry)) «has_new_frames»
+        (now («new_frames» .entry))))
         ⌝ }
 {
     let a = put_part(has_original_sections, original_sections, out, 0);
@@ -185,7 +153,16 @@ fn put_parts<'s>(
     let c = put_part(has_to_original, to_original, out, b);
     let d = put_part(has_to_transformed, to_transformed, out, c);
     let e = put_part(has_old_frames, old_frames, out, d);
-    put_part(has_new_frames, new_frames, out, e)
+    let end = put_part(has_new_frames, new_frames, out, e);
+    let spans = Spans {
+        original_sections: span_between(has_original_sections, 0, a),
+        transformed_sections: span_between(has_transformed_sections, a, b),
+        to_original: span_between(has_to_original, b, c),
+        to_transformed: span_between(has_to_transformed, c, d),
+        old_frames: span_between(has_old_frames, d, e),
+        new_frames: span_between(has_new_frames, e, end),
+    };
+    Placed { spans, end }
 }
 
 // Two fields, one after the other.
@@ -282,21 +259,7 @@ pub fn write<'s>(
     if n > out.len() {
         return Packed::Short(n);
     }
-    let spans = laid(
-        has_original_sections,
-        original_sections,
-        has_transformed_sections,
-        transformed_sections,
-        has_to_original,
-        to_original,
-        has_to_transformed,
-        to_transformed,
-        has_old_frames,
-        old_frames,
-        has_new_frames,
-        new_frames,
-    );
-    let trailer = put_parts(
+    let placed = put_parts(
         has_original_sections,
         original_sections,
         has_transformed_sections,
@@ -311,5 +274,6 @@ pub fn write<'s>(
         new_frames,
         out,
     );
-    Packed::Bytes(put_trailer(spans, out, trailer))
+    let spans = placed.spans;
+    Packed::Bytes(put_trailer(spans, out, placed.end))
 }

@@ -24,7 +24,8 @@ const BUNDLE: [u8; 60] = *b"ABC\
 fn reads(file: &[u8], start: u32, length: u32, frames_start: u32, frames_length: u32)
     requires { ⌜
         (spansAnswer (readSpec (now file)) .code ≡ 0)
-        × ((spansAnswer (readSpec (now file)) .spans .«to_original» ≡ record { present = true; start = start; length = length })
+        × ((spansAnswer (readSpec (now file)) .spans .«to_original»
+        ≡ record { present = true; start = start; length = length })
         × (spansAnswer (readSpec (now file)) .spans .«old_frames»
         ≡ record { present = true; start = «frames_start»; length = «frames_length» }))
         ⌝ }

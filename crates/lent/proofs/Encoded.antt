@@ -39,7 +39,8 @@ le-read (suc w) n l h =
     rw (e, r) (omega arith)
 
 -- what was read is what is written
-pub le-written : (w : ℕ) (s : List ℕ) (at : ℕ) → Bytes s → at + w ≤ length s → leBytes w (leAt w s at) ≡ take w (drop at s)
+pub le-written : (w : ℕ) (s : List ℕ) (at : ℕ) → Bytes s → at + w ≤ length s
+    → leBytes w (leAt w s at) ≡ take w (drop at s)
 unfolding leAt leBytes
 le-written zero s at b h = refl
 le-written (suc w) s at b h =

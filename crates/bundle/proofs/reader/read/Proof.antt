@@ -37,7 +37,8 @@ returns-3 : tie.Need-returns-3
 returns-3 c =
     let marked = c .before .before in
     let s = now (marked .before .before .before .before .before .args .file) in
-    read-other s (omega arith) (omega arith) (sym (marked .if3 .taken) ∙ marked .before .is-mark .ensures) (λ e. omega (arith, c .before .u32-at .ensures))
+    read-other s (omega arith) (omega arith) (sym (marked .if3 .taken) ∙ marked .before .is-mark .ensures)
+    (λ e. omega (arith, c .before .u32-at .ensures))
 
 touch-requires : tie.Need-touch-requires
 touch-requires c κs = search needs

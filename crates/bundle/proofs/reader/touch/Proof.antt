@@ -8,7 +8,8 @@ use denote.Ref.{now}
 use Rattle.bundle.specs.declared.Span.{Span}
 use Rattle.bundle.specs.declared.Span.the-variants.{Absent, At}
 use Rattle.bundle.specs.Reading.{spansAt, spanList, touching}
-use Rattle.bundle.proofs.Touching.{partsLeft, all-parts, touch-part, touch-absent, touch-here, touch-elsewhere, touch-end}
+use Rattle.bundle.proofs.Touching.{partsLeft, all-parts, touch-part, touch-absent, touch-here}
+use Rattle.bundle.proofs.Touching.{touch-elsewhere, touch-end}
 use borrow.Author.Needs.{needs}
 use Rattle.bundle.proofs.reader.touch.Statement.{statement}
 use Rattle.bundle.proofs.reader.touch.Tie as tie
@@ -51,7 +52,8 @@ loop-again c =
     let a = read .before .before .before .before .args in
     let here = sym (read .span-at .ensures) ∙ c .enum-told .given .1 in
     let part = touch-part (now (a .file)) (a .at) (l .place) (l .k) (omega arith) Absent here in
-    (omega arith, (l .inv .1 .0, l .inv .1 .1 ∙ part ∙ touch-absent (l .place) (a .at) (partsLeft (now (a .file)) (a .at) (l .k + 1))))
+    let passed = touch-absent (l .place) (a .at) (partsLeft (now (a .file)) (a .at) (l .k + 1)) in
+    (omega arith, (l .inv .1 .0, l .inv .1 .1 ∙ part ∙ passed))
 
 enum-known-span : tie.Need-enum-known-span Inv-loop μ-loop
 enum-known-span c = search needs

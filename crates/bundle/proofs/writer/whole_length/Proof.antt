@@ -1,14 +1,25 @@
 -- `bundle::writer::whole_length` meets its contract: lengths that are added up to a bound.
 -- Assumes nothing.
 use mathlib.Core.Path.{_≡_, ap, _∙_}
-use Prim.Native.Nat.{ℕ, _+_, min}
+use Prim.Native.Nat.{min}
 use native.Mathlib.Omega.{arith}
-use lib.ListN.{length}
 use denote.Ref.{now}
-use Rattle.bundle.proofs.Lengths.{given, length-bundle, joined-lengths, one-more}
+use Rattle.bundle.specs.Layout.{Parts}
+use Rattle.bundle.specs.Writing.{lentParts}
+use Rattle.bundle.proofs.Lengths.{length-bundle, joined-lengths, one-more}
 use borrow.Author.Needs.{needs}
 use Rattle.bundle.proofs.writer.whole_length.Statement.{statement}
 use Rattle.bundle.proofs.writer.whole_length.Tie as tie
+
+-- the parts that are lent
+abbrev given : tie.Start → Parts
+given s =
+    lentParts (s .args .has-original-sections) (now (s .args .original-sections))
+    (s .args .has-transformed-sections) (now (s .args .transformed-sections))
+    (s .args .has-to-original) (now (s .args .to-original))
+    (s .args .has-to-transformed) (now (s .args .to-transformed))
+    (s .args .has-old-frames) (now (s .args .old-frames))
+    (s .args .has-new-frames) (now (s .args .new-frames))
 
 longer-requires : tie.Need-longer-requires
 longer-requires c κs = search needs
@@ -35,17 +46,11 @@ returns c =
     let third = fourth .before in
     let second = third .before in
     let first = second .before in
-    let a = first .before .before .before .before .before .before .before .args in
-    let sum = length-bundle (given (a .has-original-sections) (now (a .original-sections)) (a .has-transformed-sections)
-    (now (a .transformed-sections)) (a .has-to-original) (now (a .to-original)) (a .has-to-transformed)
-    (now (a .to-transformed)) (a .has-old-frames) (now (a .old-frames)) (a .has-new-frames) (now (a .new-frames))) in
-    let lengths = joined-lengths (a .has-original-sections) (now (a .original-sections)) (a .has-transformed-sections)
-    (now (a .transformed-sections)) (a .has-to-original) (now (a .to-original)) (a .has-to-transformed)
-    (now (a .to-transformed)) (a .has-old-frames) (now (a .old-frames)) (a .has-new-frames) (now (a .new-frames)) in
+    let p = given (first .before .before .before .before .before .before .before) in
     let two = one-more _ _ _ _ (first .longer .ensures) (second .longer2 .ensures) in
     let four = one-more _ _ _ _ (one-more _ _ _ _ two (third .longer3 .ensures)) (fourth .longer4 .ensures) in
     let six = one-more _ _ _ _ (one-more _ _ _ _ four (fifth .longer5 .ensures)) (c .longer6 .ensures) in
-    six ∙ ap (min 4294967296) (omega (arith, sum, lengths))
+    six ∙ ap (min 4294967296) (omega (arith, length-bundle p, joined-lengths p))
 
 pub whole-length-spec : {M : Type 1} → statement M
 whole-length-spec =

@@ -52,7 +52,8 @@ expect-requires-6 c κs =
 
 expect-requires-7 : tie.Need-expect-requires-7
 expect-requires-7 c κs =
-    let read = c .before .before .before .before .before .before .before .before .before .before .before .before .before .before in
+    let sixth = c .before .before in
+    let read = sixth .before .before .before .before .before .before .before .before .before .before .before .before in
     eq-eqb _ _
     (ap (λ (x : SpansAnswer). x .spans .«old_frames» .length) (read .gillacorn-bundle-read .ensures)
     ∙ ap (λ (x : PartSpan). x .length) (read .before .before .pre .1 .1))

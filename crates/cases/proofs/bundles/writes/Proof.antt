@@ -19,12 +19,14 @@ gillacorn-bundle-write-requires c κs = search needs
 expect-requires : tie.Need-expect-requires
 expect-requires c κs =
     let wrote = c .before .before in
-    eq-eqb _ _ (ap (λ (x : BytesAnswer). x .code) (wrote .gillacorn-bundle-write .ensures .0 ∙ wrote .before .before .before .before .pre .0))
+    eq-eqb _ _ (ap (λ (x : BytesAnswer). x .code)
+    (wrote .gillacorn-bundle-write .ensures .0 ∙ wrote .before .before .before .before .pre .0))
 
 expect-requires-2 : tie.Need-expect-requires-2
 expect-requires-2 c κs =
     let wrote = c .before .before .before .before in
-    eq-eqb _ _ (ap (λ (x : BytesAnswer). x .bytes) (wrote .gillacorn-bundle-write .ensures .0 ∙ wrote .before .before .before .before .pre .0))
+    eq-eqb _ _ (ap (λ (x : BytesAnswer). x .bytes)
+    (wrote .gillacorn-bundle-write .ensures .0 ∙ wrote .before .before .before .before .pre .0))
 
 same-requires : tie.Need-same-requires
 same-requires c κs =
