@@ -113,7 +113,8 @@ pub(crate) fn value<T>(code: u32, needed: usize, value: T) -> Result<T> {
     }
 }
 
-#[cold]
+// Always in its caller: from a call the refusal would come back in memory, and with it every walk.
+#[inline(always)]
 fn refusal(code: u32, needed: usize) -> Refusal {
     match code {
         1 => Refusal::Length,
