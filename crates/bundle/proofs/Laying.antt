@@ -1,26 +1,21 @@
 -- Parts laid out one after the other: where they lie, and what is read there.
 -- Assumes nothing.
 use mathlib.Core.Path.{_≡_, refl, sym, ap, _∙_}
-use Prim.Native.Nat.{ℕ, zero, suc, _+_, _-_, _*_, _≤_, _<_}
-use native.Mathlib.Nat.{add-zero, zero-add}
+use Prim.Native.Nat.{ℕ, _+_, _-_, _≤_}
+use native.Mathlib.Nat.{add-zero}
 use native.Mathlib.Omega.{arith}
-use mathlib.Core.Bool.{Bool, true, false, cond, _&&_}
+use mathlib.Core.Bool.{true}
 use mathlib.Core.List.{List, [], _∷_, _++_, map, append-assoc}
 use mathlib.Core.Option.{Option, none, some}
-use lib.ListN.{length, take, drop, length-append, length-drop, take-append-drop}
+use lib.ListN.{length, take, drop, length-append, length-drop}
 use lib.Seq.{take-append-seam, drop-append-seam, length-take-le, take-add, drop-drop}
 use lib.Dec.{eqb}
-use borrow.Author.Tests.{eq-eqb, ne-eqb, eqb-true, le-leb}
-use Rattle.lent.specs.Le.{leAt, leBytes}
-use Rattle.lent.specs.Table.{listed}
-use Rattle.lent.proofs.Encoded.{length-le, le-after, le-read, le-written}
-use Rattle.lent.proofs.Field.{Bytes}
+use borrow.Author.Tests.{eq-eqb, eqb-true, le-leb}
 use Rattle.lent.proofs.Logic.{and-left, and-right}
 use Rattle.bundle.specs.declared.Span.{Span}
 use Rattle.bundle.specs.declared.Span.the-variants.{Absent, At}
-use Rattle.bundle.specs.Layout.{joined, spansFrom, fields, allFields}
-use Rattle.bundle.specs.Reading.{spanOf, spanAt, touching, bytesOf, partIn}
-use Rattle.bundle.proofs.Lengths.{length-fields}
+use Rattle.bundle.specs.Layout.{joined, spansFrom}
+use Rattle.bundle.specs.Reading.{touching, bytesOf, partIn}
 
 -- parts that are laid out from place p on touch each other
 pub laid-touch : (p : ℕ) (l : List (Option (List ℕ))) → touching p (p + length (joined l)) (spansFrom p l) ≡ true

@@ -1,7 +1,7 @@
 -- How long a bundle is, and its parts behind their marks.
 -- Assumes nothing.
 use mathlib.Core.Path.{_≡_, refl, ap, _∙_}
-use Prim.Native.Nat.{ℕ, suc, _+_, _-_, _*_, min}
+use Prim.Native.Nat.{ℕ, suc, _+_, _-_, _*_, _≤_, min}
 use native.Mathlib.Omega.{arith}
 use mathlib.Core.Bool.{Bool, true, false, cond}
 use mathlib.Core.List.{List, [], _∷_, _++_}
@@ -86,16 +86,23 @@ module _ (s : List ℕ) where
       rw n
   span-marked false from to e = refl
 
--- six parts, the first at place 0 and each other one where the one before it ends
-pub six-spans : (p : Parts) (a b c d e : ℕ) → a ≡ 0 + length (bytesIn (p .originalSections))
-    → b ≡ a + length (bytesIn (p .transformedSections)) → c ≡ b + length (bytesIn (p .toOriginal))
-    → d ≡ c + length (bytesIn (p .toTransformed)) → e ≡ d + length (bytesIn (p .oldFrames))
+-- where six parts end, the first of which begins at place 0 and each other one where the one before it ends
+pub record Ends (p : Parts) (a b c d e f : ℕ) : Type 0 where
+  pub first : a ≡ 0 + length (bytesIn (p .originalSections))
+  pub second : b ≡ a + length (bytesIn (p .transformedSections))
+  pub third : c ≡ b + length (bytesIn (p .toOriginal))
+  pub fourth : d ≡ c + length (bytesIn (p .toTransformed))
+  pub fifth : e ≡ d + length (bytesIn (p .oldFrames))
+  pub sixth : f ≡ e + length (bytesIn (p .newFrames))
+  pub count : f ≤ 4294967295
+
+pub six-spans : {p : Parts} {a b c d e f : ℕ} → Ends p a b c d e f
     → spansFrom 0 (inOrder p) ≡ spanFrom 0 (p .originalSections)
     ∷ (spanFrom a (p .transformedSections)
     ∷ (spanFrom b (p .toOriginal)
     ∷ (spanFrom c (p .toTransformed) ∷ (spanFrom d (p .oldFrames) ∷ (spanFrom e (p .newFrames) ∷ [])))))
 unfolding spansFrom
-six-spans p a b c d e f g h i j = rw (j, i, h, g, f)
+six-spans w = rw (w .fifth, w .fourth, w .third, w .second, w .first)
 
 -- one more length, where lengths are added up to a bound
 pub one-more : (x y n r : ℕ) → n ≡ min 4294967296 x → r ≡ min 4294967296 (n + y) → r ≡ min 4294967296 (x + y)

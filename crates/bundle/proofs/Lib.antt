@@ -5,5 +5,6 @@ pub mod Readings
 pub mod Writings
 pub mod Laying
 pub mod Trailing
+pub mod Whole
 pub mod Bundles
 pub mod Determined

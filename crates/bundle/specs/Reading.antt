@@ -1,5 +1,5 @@
 -- The reader: where the parts of a file lie, or why it is refused; and the bytes of a part.
-use Prim.Native.Nat.{ℕ, _+_, _-_, _*_}
+use Prim.Native.Nat.{ℕ, _+_, _-_}
 use mathlib.Core.Bool.{Bool, true, false, cond, _&&_}
 use mathlib.Core.List.{List, [], _∷_}
 use mathlib.Core.Option.{Option, none, some}
@@ -72,12 +72,13 @@ versionFault s = cond (eqb (leAt 4 s (trailerAt s + 48)) 1) none (some 9)
 abbrev pub layoutFault : List ℕ → Option ℕ
 layoutFault s = cond (touching 0 (trailerAt s) (spanList (spansAt s (trailerAt s)))) none (some 10)
 
--- 4, 8, 9, 10; else where the six parts lie
+-- 4, 8, 9, 10: the first of them
+abbrev pub readFault : List ℕ → Option ℕ
+readFault s = firstOf (lengthFault (length s)) (firstOf (markFault s) (firstOf (versionFault s) (layoutFault s)))
+
+-- a refusal, or where the six parts lie
 unfoldable pub readSpec : List ℕ → Told Spans
-readSpec s =
-    unless
-    (firstOf (lengthFault (length s)) (firstOf (markFault s) (firstOf (versionFault s) (layoutFault s))))
-    (value (spansAt s (trailerAt s)))
+readSpec s = unless (readFault s) (value (spansAt s (trailerAt s)))
 
 abbrev pub toldOpened : Opened → Told Spans
 toldOpened (opened.Parts x) = value x

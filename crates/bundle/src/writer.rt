@@ -7,7 +7,8 @@ ghost use lib.ListN.{length};
 ghost use Rattle.lent.specs.Le.{leBytes};
 ghost use Rattle.lent.specs.Room.{Wrote};
 ghost use Rattle.bundle.specs.declared.Span.the-variants.{Absent, At};
-ghost use Rattle.bundle.specs.Layout.{inOrder, bytesIn, joined, spansFrom, fields, trailer, bundleOf};
+ghost use Rattle.bundle.specs.Inside.{Fitting, Laid};
+ghost use Rattle.bundle.specs.Layout.{bytesIn, fields, trailer, bundleOf};
 ghost use Rattle.bundle.specs.Reading.{spanList};
 ghost use Rattle.bundle.specs.Writing.{partOf, lentParts, writeSpec, writeOut, toldPacked};
 use crate::ABSENT;
@@ -121,31 +122,19 @@ fn put_parts<'s>(
     out: &mut [u8],
 ) -> Placed
     requires { ⌜
-        (length (joined (inOrder
+        Fitting
         (lentParts «has_original_sections» (now «original_sections») «has_transformed_sections»
         (now «transformed_sections») «has_to_original» (now «to_original») «has_to_transformed»
-        (now «to_transformed») «has_old_frames» (now «old_frames») «has_new_frames» (now «new_frames»))))
-        ≤ length (now out))
-        × (length (joined (inOrder
-        (lentParts «has_original_sections» (now «original_sections») «has_transformed_sections»
-        (now «transformed_sections») «has_to_original» (now «to_original») «has_to_transformed»
-        (now «to_transformed») «has_old_frames» (now «old_frames») «has_new_frames» (now «new_frames»))))
-        ≤ 4294967295)
+        (now «to_transformed») «has_old_frames» (now «old_frames») «has_new_frames» (now «new_frames»))
+        (now out)
         ⌝ }
     ensures { λ r. ⌜
-        Wrote (joined (inOrder
+        Laid
         (lentParts «has_original_sections» (now («original_sections» .entry)) «has_transformed_sections»
         (now («transformed_sections» .entry)) «has_to_original» (now («to_original» .entry)) «has_to_transformed»
         (now («to_transformed» .entry)) «has_old_frames» (now («old_frames» .entry)) «has_new_frames»
-        (now («new_frames» .entry)))))
-        (now (out .entry)) 0 (r .end) (now (out .exit))
-        ⌝ }
-    ensures { λ r. ⌜
-        spanList (r .spans) ≡ spansFrom 0 (inOrder
-        (lentParts «has_original_sections» (now («original_sections» .entry)) «has_transformed_sections»
-        (now («transformed_sections» .entry)) «has_to_original» (now («to_original» .entry)) «has_to_transformed»
-        (now («to_transformed» .entry)) «has_old_frames» (now («old_frames» .entry)) «has_new_frames»
-        (now («new_frames» .entry))))
+        (now («new_frames» .entry)))
+        (now (out .entry)) r (now (out .exit))
         ⌝ }
 {
     let a = put_part(has_original_sections, original_sections, out, 0);

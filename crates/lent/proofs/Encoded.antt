@@ -1,6 +1,6 @@
 -- A number's bytes against what is read from them, over the width: writing and reading undo each other.
 -- Assumes nothing.
-use mathlib.Core.Path.{_≡_, refl, sym, ap, _∙_}
+use mathlib.Core.Path.{_≡_, refl, ap, _∙_}
 use Prim.Native.Nat.{ℕ, zero, suc, _+_, _*_, _/_, _%_, _^_, _≤_, _<_}
 use native.Mathlib.Nat.{pow-suc, pow-zero, suc-add, zero-add}
 use native.Mathlib.Numerals.{add-one, add-two}
@@ -46,7 +46,8 @@ le-written zero s at b h = refl
 le-written (suc w) s at b h =
     let m : (getD s at 0 + 256 * leAt w s (suc at)) % 256 ≡ getD s at 0 = omega (arith, b at) in
     let d : (getD s at 0 + 256 * leAt w s (suc at)) / 256 ≡ leAt w s (suc at) = omega (arith, b at) in
-    rw (drop-cons s at 0 (omega arith), m, d) (ap (λ (l : List ℕ). getD s at 0 ∷ l) (le-written w s (suc at) b (omega arith)))
+    rw (drop-cons s at 0 (omega arith), m, d)
+    (ap (λ (l : List ℕ). getD s at 0 ∷ l) (le-written w s (suc at) b (omega arith)))
 
 -- the four bytes of a number, stored one by one
 pub four-stored : (n : ℕ) (out : List ℕ) (at : ℕ) → n < 4294967296 → at + 4 ≤ length out

@@ -1,7 +1,7 @@
 -- The window's loop that writes: what is left to write, written onto the output as it is, gives the output as it will
 -- be.
 -- Assumes nothing.
-use mathlib.Core.Path.{_≡_, refl, ap, _∙_}
+use mathlib.Core.Path.{_≡_, refl}
 use Prim.Native.Nat.{ℕ, _+_, _≤_}
 use native.Mathlib.Numerals.{add-one, add-two}
 use native.Mathlib.Omega.{arith}
@@ -12,7 +12,7 @@ use lib.Seq.{sets}
 use Rattle.lent.specs.Room.{writtenOver}
 use Rattle.lent.proofs.Wrote.{front}
 use Rattle.omap.specs.Window.{Piece, windowPieces}
-use Rattle.omap.specs.Output.{besideStart, fits, allFit, flat}
+use Rattle.omap.specs.Output.{besideStart, allFit, flat}
 use Rattle.omap.specs.Walk.{left, Found}
 use Rattle.omap.proofs.Pieces.{fits-shown, first-fits, others-fit}
 

@@ -1,13 +1,8 @@
 -- `bundle::reader::bytes_of` meets its contract.
 -- Assumes nothing.
-use mathlib.Core.Path.{_≡_, sym, ap, _∙_}
-use Prim.Native.Nat.{ℕ, _+_, _-_}
+use Prim.Native.Nat.{_-_}
 use native.Mathlib.Omega.{arith}
-use mathlib.Core.List.{List}
-use lib.ListN.{length, take, drop}
-use borrow.Author.Tests.{le-leb, lt-leb}
 use denote.Ref.{now}
-use Rattle.bundle.specs.Reading.{bytesOf}
 use Rattle.bundle.proofs.SpanBytes.{bytes-within, bytes-past, bytes-absent}
 use borrow.Author.Needs.{needs}
 use Rattle.bundle.proofs.reader.bytes_of.Statement.{statement}

@@ -1,15 +1,10 @@
 -- `bundle::reader::read` meets its contract.
 -- Assumes nothing.
-use mathlib.Core.Path.{_≡_, sym, ap, _∙_}
-use mathlib.Core.Bool.{true}
-use Prim.Native.Nat.{_-_, _≤_}
+use mathlib.Core.Path.{sym, ap, _∙_}
+use Prim.Native.Nat.{_-_}
 use native.Mathlib.Omega.{arith}
-use lib.ListN.{length, drop}
 use denote.Ref.{now}
 use Rattle.lent.specs.Paper.{value}
-use Rattle.bundle.specs.declared.Spans.{Spans}
-use Rattle.bundle.specs.Layout.{mark}
-use Rattle.bundle.specs.Reading.{same}
 use Rattle.bundle.proofs.Readings.{read-large, read-short, read-unmarked, read-other, read-broken, read-parts}
 use borrow.Author.Needs.{needs}
 use Rattle.bundle.proofs.reader.read.Statement.{statement}

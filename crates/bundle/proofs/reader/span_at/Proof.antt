@@ -1,6 +1,5 @@
 -- `bundle::reader::span_at` meets its contract.
 -- Assumes nothing.
-use native.Mathlib.Omega.{arith}
 use borrow.Author.Needs.{needs}
 use Rattle.bundle.proofs.reader.span_at.Statement.{statement}
 use Rattle.bundle.proofs.reader.span_at.Tie as tie

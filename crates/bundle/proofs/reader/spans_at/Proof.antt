@@ -1,6 +1,5 @@
 -- `bundle::reader::spans_at` meets its contract: each span is read at its own place.
 -- Assumes nothing.
-use native.Mathlib.Omega.{arith}
 use borrow.Author.Needs.{needs}
 use Rattle.bundle.proofs.reader.spans_at.Statement.{statement}
 use Rattle.bundle.proofs.reader.spans_at.Tie as tie

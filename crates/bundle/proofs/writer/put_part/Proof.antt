@@ -1,8 +1,6 @@
 -- `bundle::writer::put_part` meets its contract.
 -- Assumes nothing.
-use mathlib.Core.Path.{ap, sym, _∙_}
 use native.Mathlib.Omega.{arith}
-use lib.ListN.{length}
 use denote.Ref.{now}
 use Rattle.bundle.proofs.Lengths.{bytes-marked}
 use borrow.Author.Needs.{needs}

@@ -1,15 +1,13 @@
 -- `bundle::writer::put_parts` meets its contract: the parts one after the other, each where the one before it ends.
 -- Assumes nothing.
-use mathlib.Core.Path.{_≡_, sym, _∙_}
-use Prim.Native.Nat.{_+_, _≤_}
+use mathlib.Core.Path.{sym, _∙_}
 use native.Mathlib.Omega.{arith}
 use mathlib.Core.List.{append-nil}
-use lib.ListN.{length}
 use denote.Ref.{now}
 use Rattle.lent.proofs.Wrote.{wrote-both}
-use Rattle.bundle.specs.Layout.{Parts, bytesIn, joined, spansFrom}
+use Rattle.bundle.specs.Layout.{Parts, joined}
 use Rattle.bundle.specs.Writing.{lentParts}
-use Rattle.bundle.proofs.Lengths.{joined-lengths, span-marked, six-spans}
+use Rattle.bundle.proofs.Lengths.{joined-lengths, span-marked, Ends, six-spans}
 use Rattle.bundle.proofs.writer.put_parts.Statement.{statement}
 use Rattle.bundle.proofs.writer.put_parts.Tie as tie
 
@@ -86,44 +84,26 @@ module _ (k : tie.After-slice-known7) where
   abbrev first : tie.After-put-part
   first = second .before .before .before .before
 
-  ends : (first .put-part .result ≡ 0 + length (bytesIn (lent-to first .originalSections)))
-      × ((second .put-part2 .result ≡ first .put-part .result + length (bytesIn (lent-to first .transformedSections)))
-      × ((third .put-part3 .result ≡ second .put-part2 .result + length (bytesIn (lent-to first .toOriginal)))
-      × ((fourth .put-part4 .result ≡ third .put-part3 .result + length (bytesIn (lent-to first .toTransformed)))
-      × ((fifth .put-part5 .result ≡ fourth .put-part4 .result + length (bytesIn (lent-to first .oldFrames)))
-      × ((sixth .put-part6 .result ≡ fifth .put-part5 .result + length (bytesIn (lent-to first .newFrames)))
-      × (sixth .put-part6 .result ≤ 4294967295))))))
+  ends : Ends (lent-to first) (first .put-part .result) (second .put-part2 .result) (third .put-part3 .result)
+      (fourth .put-part4 .result) (fifth .put-part5 .result) (sixth .put-part6 .result)
   ends =
       let start = first .before .before .before .before .before .before .before .before .before in
-      let total = joined-lengths (lent-to first) in (
-        first .put-part .ensures .place,
-        (
-          second .put-part2 .ensures .place,
-          (
-            third .put-part3 .ensures .place,
-            (
-              fourth .put-part4 .ensures .place,
-              (
-                fifth .put-part5 .ensures .place,
-                (
-                  sixth .put-part6 .ensures .place,
-                  omega (
-                    arith,
-                    total,
-                    start .pre .1,
-                    first .put-part .ensures .place,
-                    second .put-part2 .ensures .place,
-                    third .put-part3 .ensures .place,
-                    fourth .put-part4 .ensures .place,
-                    fifth .put-part5 .ensures .place,
-                    sixth .put-part6 .ensures .place,
-                  ),
-                ),
-              ),
-            ),
-          ),
-        ),
-      )
+      let one = first .put-part .ensures .place in
+      let two = second .put-part2 .ensures .place in
+      let three = third .put-part3 .ensures .place in
+      let four = fourth .put-part4 .ensures .place in
+      let five = fifth .put-part5 .ensures .place in
+      let six = sixth .put-part6 .ensures .place in
+      let total = joined-lengths (lent-to first) in
+      record {
+        first = one;
+        second = two;
+        third = three;
+        fourth = four;
+        fifth = five;
+        sixth = six;
+        count = omega (arith, total, start .pre .count, one, two, three, four, five, six);
+      }
 
 span-between-requires : tie.Need-span-between-requires
 span-between-requires c κs = let e = ends c in (omega (arith, e), omega (arith, e))
@@ -151,40 +131,37 @@ same-length c =
     omega (arith, first k, second k, third k, fourth k, fifth k, sixth k)
 
 returns : tie.Need-returns
-unfolding joined spansFrom
+unfolding joined
 returns c =
     let k = c .before .before .before .before .before .before in
     let p = first k .before .before .before .before .before .before .before .before .before .args in
     let e = ends k in
     let s1 = c .before .before .before .before .before .span-between .ensures
-    ∙ span-marked (now (p .original-sections)) (p .has-original-sections) 0
-    (first k .put-part .result) (e .0) in
+    ∙ span-marked (now (p .original-sections)) (p .has-original-sections) 0 (first k .put-part .result) (e .first) in
     let s2 = c .before .before .before .before .span-between2 .ensures
     ∙ span-marked (now (p .transformed-sections)) (p .has-transformed-sections) (first k .put-part .result)
-    (second k .put-part2 .result) (e .1 .0) in
+    (second k .put-part2 .result) (e .second) in
     let s3 = c .before .before .before .span-between3 .ensures
     ∙ span-marked (now (p .to-original)) (p .has-to-original) (second k .put-part2 .result)
-    (third k .put-part3 .result) (e .1 .1 .0) in
+    (third k .put-part3 .result) (e .third) in
     let s4 = c .before .before .span-between4 .ensures
     ∙ span-marked (now (p .to-transformed)) (p .has-to-transformed) (third k .put-part3 .result)
-    (fourth k .put-part4 .result) (e .1 .1 .1 .0) in
+    (fourth k .put-part4 .result) (e .fourth) in
     let s5 = c .before .span-between5 .ensures
     ∙ span-marked (now (p .old-frames)) (p .has-old-frames) (fourth k .put-part4 .result)
-    (fifth k .put-part5 .result) (e .1 .1 .1 .1 .0) in
+    (fifth k .put-part5 .result) (e .fifth) in
     let s6 = c .span-between6 .ensures
     ∙ span-marked (now (p .new-frames)) (p .has-new-frames) (fifth k .put-part5 .result)
-    (sixth k .put-part6 .result) (e .1 .1 .1 .1 .1 .0) in (
-      simp append-nil
+    (sixth k .put-part6 .result) (e .sixth) in
+    record {
+      parts = simp append-nil
           (wrote-both (first k .put-part .ensures)
           (wrote-both (second k .put-part2 .ensures)
           (wrote-both (third k .put-part3 .ensures)
           (wrote-both (fourth k .put-part4 .ensures)
-          (wrote-both (fifth k .put-part5 .ensures) (sixth k .put-part6 .ensures)))))),
-      rw (s1, s2, s3, s4, s5, s6)
-          (sym (six-spans (lent-to (first k)) (first k .put-part .result) (second k .put-part2 .result)
-          (third k .put-part3 .result) (fourth k .put-part4 .result) (fifth k .put-part5 .result)
-          (e .0) (e .1 .0) (e .1 .1 .0) (e .1 .1 .1 .0) (e .1 .1 .1 .1 .0))),
-    )
+          (wrote-both (fifth k .put-part5 .ensures) (sixth k .put-part6 .ensures))))));
+      spans = rw (s1, s2, s3, s4, s5, s6) (sym (six-spans e));
+    }
 
 pub put-parts-spec : {M : Type 1} → statement M
 put-parts-spec =

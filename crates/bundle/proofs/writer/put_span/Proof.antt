@@ -1,6 +1,5 @@
 -- `bundle::writer::put_span` meets its contract.
 -- Assumes nothing.
-use native.Mathlib.Omega.{arith}
 use Rattle.bundle.specs.Layout.{fields}
 use borrow.Author.Needs.{needs}
 use Rattle.bundle.proofs.writer.put_span.Statement.{statement}

@@ -1,6 +1,5 @@
 -- `bundle::writer::put_trailer` meets its contract: its fields one after the other.
 -- Assumes nothing.
-use native.Mathlib.Omega.{arith}
 use mathlib.Core.List.{append-assoc, append-nil}
 use Rattle.lent.proofs.Wrote.{wrote-both}
 use Rattle.bundle.specs.Layout.{allFields}

@@ -1,6 +1,6 @@
 -- `bundle::writer::whole_length` meets its contract: lengths that are added up to a bound.
 -- Assumes nothing.
-use mathlib.Core.Path.{_≡_, ap, _∙_}
+use mathlib.Core.Path.{ap, _∙_}
 use Prim.Native.Nat.{min}
 use native.Mathlib.Omega.{arith}
 use denote.Ref.{now}

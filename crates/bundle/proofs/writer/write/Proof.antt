@@ -49,14 +49,14 @@ put-parts-requires c κs =
     let k = c .before .before .before in
     let known = length-bundle (parts k) in
     let told = k .whole-length .ensures in
-    (omega (arith, c .before, told, known), omega (arith, c .before, told, known))
+    record { room = omega (arith, c .before, told, known); count = omega (arith, c .before, told, known) }
 
 put-trailer-requires : tie.Need-put-trailer-requires
 put-trailer-requires c κs =
     let put = c .before .before .before .before in
     let k = put .before .before .before .before in
     let told = k .whole-length .ensures in
-    omega (arith, put .before .before, put .put-parts .ensures .0 .place, told, length-bundle (parts k))
+    omega (arith, put .before .before, put .put-parts .ensures .parts .place, told, length-bundle (parts k))
 
 same-length : tie.Need-same-length
 same-length c = search needs
@@ -68,7 +68,7 @@ returns-3 c =
     let room = put .before .before in
     let k = room .before .before in
     write-all (parts k) (out k) (length-told k) (k .whole-length .ensures) (omega (arith, room)) (omega (arith, room))
-    (put .put-parts .ensures .1) (put .put-parts .ensures .0) (last .put-trailer .ensures)
+    (put .put-parts .ensures .spans) (put .put-parts .ensures .parts) (last .put-trailer .ensures)
 
 pub write-spec : {M : Type 1} → statement M
 write-spec =
