@@ -97,7 +97,7 @@ int main(void)
     gillacorn_frame_tables tables = {gillacorn_part(file, read.spans.old_frames),
                                      gillacorn_part(file, read.spans.new_frames)};
     first_frame(tables);
-    /* A part of a bundle is none. */
+    /* Cut short, it does not end in the mark. */
     read = gillacorn_bundle_read(file, length - 1);
     printf("cut: refused %" PRIu32 ": %s\n", read.code, gillacorn_refusal_text(read.code));
     free(file);

@@ -93,12 +93,13 @@ fn writes(part: &[u8], code: u32, bytes: usize, left: &[u8; 60])
 pub(crate) fn all() {
     let bundle = BUNDLE;
     reads(&bundle[..59], 0, 3, 3, 0);
-    // A byte after the mark, and a byte before the trailer that no part has.
+    // A byte after the mark, and fewer bytes than a trailer has.
     refuses(&bundle, 8);
     refuses(&bundle[..55], 8);
     let mut later = BUNDLE;
     later[51] = 2;
     refuses(&later[..59], 9);
+    // To-original begins at 1.
     let mut gap = BUNDLE;
     gap[19] = 1;
     refuses(&gap[..59], 10);

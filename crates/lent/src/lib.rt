@@ -1,5 +1,5 @@
-// Tables in lent bytes: their little-endian fields, the refusals 1, 2 and 3 that a table gives, and the search by halving.
-// Everything above decodes through this crate; nothing else knows of bytes.
+// Tables in lent bytes: their little-endian fields, read and written, the refusals 1, 2 and 3 that a table gives, and
+// the search by halving. Everything above reads and writes its fields through this crate.
 mod output;
 
 pub use output::put_bytes;

@@ -35,7 +35,7 @@ use crate::refusal::{value, Result};
 /// assert_eq!(Rva(0x1f).to_internal_rva(&read.address_map())?, Some(PdbInternalRva(0x10f)));
 /// assert!(read.frame_table().is_empty()?);
 ///
-/// // A part of a bundle is none.
+/// // Cut short, it does not end in the mark.
 /// assert_eq!(Bundle::read(&file[..file.len() - 1]), Err(Refusal::NotABundle));
 /// # Ok::<(), Refusal>(())
 /// ```
