@@ -1,3 +1,4 @@
 pub mod Walks
 pub mod RoundTrip
+pub mod Agreeing
 pub mod Determined

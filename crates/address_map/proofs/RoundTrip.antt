@@ -14,6 +14,7 @@ use borrow.Author.Tests.{leb-true}
 use Rattle.lent.specs.Paper.{Told, value, nothing, unless}
 use Rattle.lent.specs.Table.{listed, sectionShape}
 use Rattle.pe.specs.Header.{headerAt}
+use Rattle.pe.specs.declared.extent.ExtentBy.{ExtentBy}
 use Rattle.address_map.specs.Sections.{Offset, inSection, walk, sectionSpec, addressSpec}
 use Rattle.address_map.proofs.Walks.{rest, start, extentAt, walk-here, walk-on, section-good, address-at}
 
@@ -32,20 +33,20 @@ turn true false y x t h = (refl, inr h)
 turn false e y x t h = ((cc), inr (cc))
 
 -- a walk that finds the address
-found-from : (s : List ℕ) (a i n : ℕ) (x : Offset) → i + n ≤ length s / 40
-    → walk a i (listed (headerAt s) i n) ≡ value x → InHeader s a x
+found-from : (by : ExtentBy) (s : List ℕ) (a i n : ℕ) (x : Offset) → i + n ≤ length s / 40
+    → walk by a i (listed (headerAt s) i n) ≡ value x → InHeader s a x
 unfolding walk listed
-found-from s a i zero x w h = let c : _≡_ {A = ℕ} 0 1 = cc in absurd (omega arith)
-found-from s a i (suc n) x w h =
+found-from by s a i zero x w h = let c : _≡_ {A = ℕ} 0 1 = cc in absurd (omega arith)
+found-from by s a i (suc n) x w h =
     let y = inSection (i + 1) (a - start s i) in
     let later = listed (headerAt s) (suc i) n in
-    let k = turn (leb (start s i) a) (ltb (a - start s i) (extentAt s i)) y x (walk a (i + 1) later) h in
+    let k = turn (leb (start s i) a) (ltb (a - start s i) (extentAt by s i)) y x (walk by a (i + 1) later) h in
     let b : start s i ≤ a = leb-true (start s i) a (k .0) in
     let same : i + 1 ≡ suc i = omega arith in
     ⊎-elim
     (λ (q : x ≡ y). record { place = i; within = omega arith; below = b; is = q })
-    (λ (q : walk a (i + 1) later ≡ value x).
-    found-from s a (suc i) n x (omega arith) (subst (λ (j : ℕ). walk a j later ≡ value x) same q))
+    (λ (q : walk by a (i + 1) later ≡ value x).
+    found-from by s a (suc i) n x (omega arith) (subst (λ (j : ℕ). walk by a j later ≡ value x) same q))
     (k .1)
 
 good-of : (f : Option ℕ) (t : Told Offset) (x : Offset) → unless f t ≡ value x → (none ≡ f) × (t ≡ value x)
@@ -53,12 +54,12 @@ good-of none t x e = (refl, e)
 good-of (some n) t x e = ((cc), (cc))
 
 -- there and back: no order is asked of the headers
-pub address-back : (s : List ℕ) (a : ℕ) (x : Offset) → a ≤ 4294967295 → sectionSpec s a ≡ value x
+pub address-back : (by : ExtentBy) (s : List ℕ) (a : ℕ) (x : Offset) → a ≤ 4294967295 → sectionSpec by s a ≡ value x
     → addressSpec s x ≡ value a
 unfolding sectionSpec
-address-back s a x h e =
-    let g = good-of (sectionShape s) (walk a 0 (listed (headerAt s) 0 (length s / 40))) x e in
-    let f = found-from s a 0 (length s / 40) x (omega arith) (g .1) in
+address-back by s a x h e =
+    let g = good-of (sectionShape s) (walk by a 0 (listed (headerAt s) 0 (length s / 40))) x e in
+    let f = found-from by s a 0 (length s / 40) x (omega arith) (g .1) in
     let i = f .place in
     let sum : start s i + (a - start s i) ≡ a = omega (arith, f .below) in
     ap (addressSpec s) (f .is)
@@ -66,40 +67,40 @@ address-back s a x h e =
     ∙ ap value sum
 
 -- each extent ends where the next begins, or before
-abbrev pub Apart : List ℕ → Type 0
-Apart s = (j k : ℕ) → j < k → k < length s / 40 → start s j + extentAt s j ≤ start s k
+abbrev pub Apart : ExtentBy → List ℕ → Type 0
+Apart by s = (j k : ℕ) → j < k → k < length s / 40 → start s j + extentAt by s j ≤ start s k
 
 -- the header at place k holds the address
-record Holds (s : List ℕ) (a k : ℕ) : Type 0 where
+record Holds (by : ExtentBy) (s : List ℕ) (a k : ℕ) : Type 0 where
   pub within : k < length s / 40
   pub below : start s k ≤ a
-  pub inside : a - start s k < extentAt s k
+  pub inside : a - start s k < extentAt by s k
 
-module _ (s : List ℕ) (apart : Apart s) (a : ℕ) where
+module _ (by : ExtentBy) (s : List ℕ) (apart : Apart by s) (a : ℕ) where
   -- the walk from i on reaches the header at i + d
-  reach : (d i : ℕ) → Holds s a (i + d) → walk a i (rest s i) ≡ value (inSection (i + d + 1) (a - start s (i + d)))
+  reach : (d i : ℕ) → Holds by s a (i + d) → walk by a i (rest s i) ≡ value (inSection (i + d + 1) (a - start s (i + d)))
   reach zero i k =
       let e : i + zero ≡ i = omega arith in
-      let h : Holds s a i = subst (Holds s a) e k in
-      walk-here s a i (h .within) (h .below) (h .inside)
+      let h : Holds by s a i = subst (Holds by s a) e k in
+      walk-here by s a i (h .within) (h .below) (h .inside)
       ∙ ap (λ (j : ℕ). value (inSection (j + 1) (a - start s j))) (sym e)
   reach (suc d) i k =
       let e : i + suc d ≡ (i + 1) + d = omega arith in
       let b : start s (i + suc d) ≤ a = k .below in
-      let o : start s i + extentAt s i ≤ start s (i + suc d) = apart i (i + suc d) (omega arith) (k .within) in
-      walk-on s a i (omega (arith, k .within)) (omega arith) (omega arith)
-      ∙ reach d (i + 1) (subst (Holds s a) e k)
+      let o : start s i + extentAt by s i ≤ start s (i + suc d) = apart i (i + suc d) (omega arith) (k .within) in
+      walk-on by s a i (omega (arith, k .within)) (omega arith) (omega arith)
+      ∙ reach d (i + 1) (subst (Holds by s a) e k)
       ∙ ap (λ (j : ℕ). value (inSection (j + 1) (a - start s j))) (sym e)
 
 -- back and there: a place inside the extent of a header
-pub section-back : (s : List ℕ) → none ≡ sectionShape s → Apart s → (j o : ℕ) → j < length s / 40 → o < extentAt s j
-    → sectionSpec s (start s j + o) ≡ value (inSection (j + 1) o)
-section-back s good apart j o w l =
+pub section-back : (by : ExtentBy) (s : List ℕ) → none ≡ sectionShape s → Apart by s → (j o : ℕ) → j < length s / 40 → o < extentAt by s j
+    → sectionSpec by s (start s j + o) ≡ value (inSection (j + 1) o)
+section-back by s good apart j o w l =
     let a = start s j + o in
     let z : 0 + j ≡ j = omega arith in
-    let h : Holds s a j = record { within = w; below = omega arith; inside = omega arith } in
+    let h : Holds by s a j = record { within = w; below = omega arith; inside = omega arith } in
     let into : a - start s j ≡ o = omega arith in
-    section-good s a good
-    ∙ reach s apart a j 0 (subst (Holds s a) (sym z) h)
+    section-good by s a good
+    ∙ reach by s apart a j 0 (subst (Holds by s a) (sym z) h)
     ∙ ap (λ (k : ℕ). value (inSection (k + 1) (a - start s k))) z
     ∙ ap (λ (k : ℕ). value (inSection (j + 1) k)) into

@@ -14,6 +14,7 @@ use Rattle.lent.specs.Table.{listed, sectionShape}
 use Rattle.lent.proofs.Place.{listed-step, listed-end, listed-all}
 use Rattle.pe.specs.Header.{headerAt}
 use Rattle.pe.specs.Extent.{extent}
+use Rattle.pe.specs.declared.extent.ExtentBy.{ExtentBy}
 use Rattle.pe.specs.declared.header.ImageSectionHeader.{ImageSectionHeader}
 use Rattle.address_map.specs.Sections.{Offset, inSection, walk, sectionSpec, placed, addressSpec}
 
@@ -24,11 +25,11 @@ rest s i = listed (headerAt s) i (length s / 40 - i)
 abbrev pub start : List ℕ → ℕ → ℕ
 start s i = headerAt s i .«virtual_address»
 
-abbrev pub extentAt : List ℕ → ℕ → ℕ
-extentAt s i = extent (headerAt s i)
+abbrev pub extentAt : ExtentBy → List ℕ → ℕ → ℕ
+extentAt by s i = extent by (headerAt s i)
 
-module _ (s : List ℕ) (a i : ℕ) where
-  pub walk-end : length s / 40 ≤ i → walk a i (rest s i) ≡ nothing
+module _ (by : ExtentBy) (s : List ℕ) (a i : ℕ) where
+  pub walk-end : length s / 40 ≤ i → walk by a i (rest s i) ≡ nothing
   unfolding walk
   walk-end h = rw (listed-end (headerAt s) i (length s / 40) h)
 
@@ -36,27 +37,27 @@ module _ (s : List ℕ) (a i : ℕ) where
     first : rest s i ≡ headerAt s i ∷ rest s (i + 1)
     first = listed-step (headerAt s) i (length s / 40) h
 
-    pub walk-later : a < start s i → walk a i (rest s i) ≡ nothing
+    pub walk-later : a < start s i → walk by a i (rest s i) ≡ nothing
     unfolding walk
     walk-later l = rw (first, lt-leb (start s i) a l)
 
     module _ (b : start s i ≤ a) where
-      pub walk-here : a - start s i < extentAt s i → walk a i (rest s i) ≡ value (inSection (i + 1) (a - start s i))
+      pub walk-here : a - start s i < extentAt by s i → walk by a i (rest s i) ≡ value (inSection (i + 1) (a - start s i))
       unfolding walk
-      walk-here l = rw (first, le-leb (start s i) a b, lt-ltb (a - start s i) (extentAt s i) l)
+      walk-here l = rw (first, le-leb (start s i) a b, lt-ltb (a - start s i) (extentAt by s i) l)
 
-      pub walk-on : extentAt s i ≤ a - start s i → walk a i (rest s i) ≡ walk a (i + 1) (rest s (i + 1))
+      pub walk-on : extentAt by s i ≤ a - start s i → walk by a i (rest s i) ≡ walk by a (i + 1) (rest s (i + 1))
       unfolding walk
-      walk-on l = rw (first, le-leb (start s i) a b, le-ltb (a - start s i) (extentAt s i) l)
+      walk-on l = rw (first, le-leb (start s i) a b, le-ltb (a - start s i) (extentAt by s i) l)
 
-module _ (s : List ℕ) (a : ℕ) where
-  pub section-refused : (n : ℕ) → some n ≡ sectionShape s → refused n ≡ sectionSpec s a
+module _ (by : ExtentBy) (s : List ℕ) (a : ℕ) where
+  pub section-refused : (n : ℕ) → some n ≡ sectionShape s → refused n ≡ sectionSpec by s a
   unfolding sectionSpec
   section-refused n e = rw (← e)
 
-  pub section-good : none ≡ sectionShape s → sectionSpec s a ≡ walk a 0 (rest s 0)
+  pub section-good : none ≡ sectionShape s → sectionSpec by s a ≡ walk by a 0 (rest s 0)
   unfolding sectionSpec
-  section-good e = rw (← e) (ap (walk a 0) (listed-all (headerAt s) (length s / 40)))
+  section-good e = rw (← e) (ap (walk by a 0) (listed-all (headerAt s) (length s / 40)))
 
 module _ (s : List ℕ) (n o : ℕ) where
   abbrev x : Offset

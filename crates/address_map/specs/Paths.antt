@@ -17,6 +17,7 @@ use mathlib.Core.List.{List}
 use Rattle.lent.specs.Paper.{Told, value, andThen}
 use Rattle.lent.specs.Table.{ifPresent}
 use Rattle.omap.specs.Lookup.{lookupSpec}
+use Rattle.pe.specs.declared.extent.ExtentBy.{ExtentBy}
 use Rattle.address_map.specs.Sections.{Offset, sectionSpec, addressSpec}
 
 -- the sections of the actual side
@@ -25,14 +26,14 @@ actual hasOriginal original hasTransformed transformed =
     cond hasTransformed transformed (ifPresent hasOriginal original)
 
 -- cross, locate
-unfoldable pub crossLocate : Bool → List ℕ → List ℕ → ℕ → Told Offset
-crossLocate present omap sections a = andThen (lookupSpec present omap a) (sectionSpec sections)
+unfoldable pub crossLocate : ExtentBy → Bool → List ℕ → List ℕ → ℕ → Told Offset
+crossLocate by present omap sections a = andThen (lookupSpec present omap a) (sectionSpec by sections)
 
 -- place, cross
 unfoldable pub placeCross : List ℕ → Bool → List ℕ → Offset → Told ℕ
 placeCross sections present omap x = andThen (addressSpec sections x) (lookupSpec present omap)
 
 -- place, cross, locate; with no transformed sections, the input
-unfoldable pub placeCrossLocate : Bool → List ℕ → Bool → List ℕ → List ℕ → Offset → Told Offset
-placeCrossLocate hasTransformed from present omap to x =
-    cond hasTransformed (andThen (placeCross from present omap x) (sectionSpec to)) (value x)
+unfoldable pub placeCrossLocate : ExtentBy → Bool → List ℕ → Bool → List ℕ → List ℕ → Offset → Told Offset
+placeCrossLocate by hasTransformed from present omap to x =
+    cond hasTransformed (andThen (placeCross from present omap x) (sectionSpec by to)) (value x)

@@ -9,6 +9,7 @@ use Rattle.lent.specs.Paper.{Told, value, nothing, refused, unless, number, fit
 use Rattle.lent.specs.Table.{sectionShape}
 use Rattle.pe.specs.Header.{headerAt, headers}
 use Rattle.pe.specs.Extent.{extent}
+use Rattle.pe.specs.declared.extent.ExtentBy.{ExtentBy}
 use Rattle.pe.specs.declared.header.ImageSectionHeader.{ImageSectionHeader}
 use Rattle.address_map.specs.declared.sections.Located.{Located}
 use Rattle.address_map.specs.declared.sections.Located.the-variants as located
@@ -28,18 +29,18 @@ toldLocated (located.Refused why) = refused (number why)
 toldLocated located.TooLarge = refused 4
 
 -- the walk over the headers from place i on, while they begin at or before the address: the first whose extent holds it
-unfoldable pub walk : ℕ → ℕ → List ImageSectionHeader → Told Offset
-walk a i [] = nothing
-walk a i (h ∷ l) =
+unfoldable pub walk : ExtentBy → ℕ → ℕ → List ImageSectionHeader → Told Offset
+walk by a i [] = nothing
+walk by a i (h ∷ l) =
     cond (leb (h .«virtual_address») a)
-    (cond (ltb (a - h .«virtual_address») (extent h))
+    (cond (ltb (a - h .«virtual_address») (extent by h))
     (value (inSection (i + 1) (a - h .«virtual_address»)))
-    (walk a (i + 1) l))
+    (walk by a (i + 1) l))
     nothing
 
 -- address to section: 1, 2, none, or the section and the offset; no order is demanded
-unfoldable pub sectionSpec : List ℕ → ℕ → Told Offset
-sectionSpec s a = unless (sectionShape s) (walk a 0 (headers s))
+unfoldable pub sectionSpec : ExtentBy → List ℕ → ℕ → Told Offset
+sectionSpec by s a = unless (sectionShape s) (walk by a 0 (headers s))
 
 -- where an offset in a section lies, as an unbounded number: nowhere in section 0 or past the last
 abbrev pub placed : List ℕ → ℕ → ℕ → Option ℕ

@@ -11,6 +11,7 @@ pub mod sections;
 
 use crate::sections::Located;
 use omap::Looked;
+use pe::ExtentBy;
 
 // An address in the actual image.
 pub struct Rva(pub u32);
@@ -41,20 +42,22 @@ impl Rva {
     // The section and the offset in it.
     pub fn to_section_offset<'s>(
         self,
+        by: ExtentBy,
         has_original: bool,
         original: &'s [u8],
         has_transformed: bool,
         transformed: &'s [u8],
     ) -> Located
-        ensures { λ r. ⌜ toldLocated r ≡ sectionSpec (actual «has_original» (now (original .entry)) «has_transformed» (now (transformed .entry))) (self .0) ⌝ }
+        ensures { λ r. ⌜ toldLocated r ≡ sectionSpec by (actual «has_original» (now (original .entry)) «has_transformed» (now (transformed .entry))) (self .0) ⌝ }
     {
         let sections = paths::actual_sections(has_original, original, has_transformed, transformed);
-        sections::get_section_offset(sections, self.0)
+        sections::get_section_offset(by, sections, self.0)
     }
 
     // The section of the original image and the offset in it.
     pub fn to_internal_offset(
         self,
+        by: ExtentBy,
         has_original: bool,
         original: &[u8],
         has_to_original: bool,
@@ -62,12 +65,12 @@ impl Rva {
     ) -> Located
         ensures { λ r. ⌜
             toldLocated r
-            ≡ crossLocate «has_to_original» (now («to_original» .entry))
+            ≡ crossLocate by «has_to_original» (now («to_original» .entry))
             (ifPresent «has_original» (now (original .entry))) (self .0)
             ⌝ }
     {
         let sections = lent::if_present(has_original, original);
-        paths::cross_locate(has_to_original, to_original, sections, self.0)
+        paths::cross_locate(by, has_to_original, to_original, sections, self.0)
     }
 }
 
@@ -82,6 +85,7 @@ impl PdbInternalRva {
     // The section of the actual image and the offset in it.
     pub fn to_section_offset<'s>(
         self,
+        by: ExtentBy,
         has_original: bool,
         original: &'s [u8],
         has_transformed: bool,
@@ -91,20 +95,20 @@ impl PdbInternalRva {
     ) -> Located
         ensures { λ r. ⌜
             toldLocated r
-            ≡ crossLocate «has_to_transformed» (now («to_transformed» .entry))
+            ≡ crossLocate by «has_to_transformed» (now («to_transformed» .entry))
             (actual «has_original» (now (original .entry)) «has_transformed» (now (transformed .entry))) (self .0)
             ⌝ }
     {
         let sections = paths::actual_sections(has_original, original, has_transformed, transformed);
-        paths::cross_locate(has_to_transformed, to_transformed, sections, self.0)
+        paths::cross_locate(by, has_to_transformed, to_transformed, sections, self.0)
     }
 
     // The section of the original image and the offset in it.
-    pub fn to_internal_offset(self, has_original: bool, original: &[u8]) -> Located
-        ensures { λ r. ⌜ toldLocated r ≡ sectionSpec (ifPresent «has_original» (now (original .entry))) (self .0) ⌝ }
+    pub fn to_internal_offset(self, by: ExtentBy, has_original: bool, original: &[u8]) -> Located
+        ensures { λ r. ⌜ toldLocated r ≡ sectionSpec by (ifPresent «has_original» (now (original .entry))) (self .0) ⌝ }
     {
         let sections = lent::if_present(has_original, original);
-        sections::get_section_offset(sections, self.0)
+        sections::get_section_offset(by, sections, self.0)
     }
 }
 
@@ -156,6 +160,7 @@ impl SectionOffset {
     // The section of the original image and the offset in it; with no transformed sections, the same.
     pub fn to_internal_offset(
         self,
+        by: ExtentBy,
         has_original: bool,
         original: &[u8],
         has_transformed: bool,
@@ -165,13 +170,14 @@ impl SectionOffset {
     ) -> Located
         ensures { λ r. ⌜
             toldLocated r
-            ≡ placeCrossLocate «has_transformed» (now (transformed .entry)) «has_to_original»
+            ≡ placeCrossLocate by «has_transformed» (now (transformed .entry)) «has_to_original»
             (now («to_original» .entry)) (ifPresent «has_original» (now (original .entry)))
             (inSection (self .section) (self .offset))
             ⌝ }
     {
         let sections = lent::if_present(has_original, original);
         paths::place_cross_locate(
+            by,
             has_transformed,
             transformed,
             has_to_original,
@@ -219,6 +225,7 @@ impl PdbInternalSectionOffset {
     // The section of the actual image and the offset in it; with no transformed sections, the same.
     pub fn to_section_offset(
         self,
+        by: ExtentBy,
         has_original: bool,
         original: &[u8],
         has_transformed: bool,
@@ -228,13 +235,14 @@ impl PdbInternalSectionOffset {
     ) -> Located
         ensures { λ r. ⌜
             toldLocated r
-            ≡ placeCrossLocate «has_transformed» (ifPresent «has_original» (now (original .entry)))
+            ≡ placeCrossLocate by «has_transformed» (ifPresent «has_original» (now (original .entry)))
             «has_to_transformed» (now («to_transformed» .entry)) (now (transformed .entry))
             (inSection (self .section) (self .offset))
             ⌝ }
     {
         let sections = lent::if_present(has_original, original);
         paths::place_cross_locate(
+            by,
             has_transformed,
             sections,
             has_to_transformed,

@@ -8,6 +8,7 @@ use crate::sections::Located;
 use crate::sections::get_section_offset;
 use crate::sections::get_virtual_address;
 use omap::Looked;
+use pe::ExtentBy;
 
 // The sections of the actual side.
 pub fn actual_sections<'s>(
@@ -37,11 +38,11 @@ fn cross(placed: Looked, present: bool, omap: &[u8]) -> Looked
 }
 
 // The step to a section, after the step that gave an address.
-fn locate(crossed: Looked, sections: &[u8]) -> Located
-    ensures { λ r. ⌜ toldLocated r ≡ andThen (toldLooked crossed) (sectionSpec (now (sections .entry))) ⌝ }
+fn locate(by: ExtentBy, crossed: Looked, sections: &[u8]) -> Located
+    ensures { λ r. ⌜ toldLocated r ≡ andThen (toldLooked crossed) (sectionSpec by (now (sections .entry))) ⌝ }
 {
     match crossed {
-        Looked::At(a) => get_section_offset(sections, a),
+        Looked::At(a) => get_section_offset(by, sections, a),
         Looked::Nothing => Located::Nothing,
         Looked::Refused(why) => Located::Refused(why),
         Looked::TooLarge => Located::TooLarge,
@@ -49,10 +50,16 @@ fn locate(crossed: Looked, sections: &[u8]) -> Located
 }
 
 // Through the OMAP, then to a section.
-pub fn cross_locate(present: bool, omap: &[u8], sections: &[u8], address: u32) -> Located
-    ensures { λ r. ⌜ toldLocated r ≡ crossLocate present (now (omap .entry)) (now (sections .entry)) address ⌝ }
+pub fn cross_locate(
+    by: ExtentBy,
+    present: bool,
+    omap: &[u8],
+    sections: &[u8],
+    address: u32,
+) -> Located
+    ensures { λ r. ⌜ toldLocated r ≡ crossLocate by present (now (omap .entry)) (now (sections .entry)) address ⌝ }
 {
-    locate(omap::lookup(present, omap, address), sections)
+    locate(by, omap::lookup(present, omap, address), sections)
 }
 
 // From a section, then through the OMAP.
@@ -68,6 +75,7 @@ pub fn place_cross(sections: &[u8], present: bool, omap: &[u8], section: u16, of
 
 // From a section, through the OMAP, to a section of the other side; with no transformed sections, the same.
 pub fn place_cross_locate(
+    by: ExtentBy,
     has_transformed: bool,
     from: &[u8],
     present: bool,
@@ -78,12 +86,12 @@ pub fn place_cross_locate(
 ) -> Located
     ensures { λ r. ⌜
         toldLocated r
-        ≡ placeCrossLocate «has_transformed» (now (from .entry)) present (now (omap .entry)) (now (to .entry))
+        ≡ placeCrossLocate by «has_transformed» (now (from .entry)) present (now (omap .entry)) (now (to .entry))
         (inSection section offset)
         ⌝ }
 {
     if has_transformed {
-        locate(place_cross(from, present, omap, section, offset), to)
+        locate(by, place_cross(from, present, omap, section, offset), to)
     } else {
         Located::At(section, offset)
     }

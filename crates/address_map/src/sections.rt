@@ -5,6 +5,7 @@ ghost use Rattle.address_map.specs.Sections.{inSection, toldLocated, sec
 use lent::Checked;
 use lent::Refusal;
 use omap::Looked;
+use pe::ExtentBy;
 
 // Where an address lies.
 pub enum Located {
@@ -19,8 +20,8 @@ pub enum Located {
 
 // The section of an address, and the offset in it. The headers are walked while they begin at or
 // before the address.
-pub fn get_section_offset(sections: &[u8], address: u32) -> Located
-    ensures { λ r. ⌜ toldLocated r ≡ sectionSpec (now (sections .entry)) address ⌝ }
+pub fn get_section_offset(by: ExtentBy, sections: &[u8], address: u32) -> Located
+    ensures { λ r. ⌜ toldLocated r ≡ sectionSpec by (now (sections .entry)) address ⌝ }
 {
     let shaped = lent::section_shape(sections);
     if let Checked::Refused(why) = shaped {
@@ -34,8 +35,9 @@ pub fn get_section_offset(sections: &[u8], address: u32) -> Located
             return Located::Nothing;
         }
         let into = address - start;
-        if into < pe::extent_at(sections, i) {
-            return Located::At((i + 1) as u16, into);
+        if into < pe::extent_at(by, sections, i) {
+            let number = (i + 1) as u16;
+            return Located::At(number, into);
         }
         i += 1;
     }

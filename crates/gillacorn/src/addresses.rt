@@ -1,16 +1,13 @@
-// The conversions of an address map. Each is lent all four tables of the map, behind their marks, and
-// hands on those on its path.
+// The conversions of an address map that end in an address. Each is lent all four tables of the map,
+// behind their marks, and hands on those on its path.
 ghost use mathlib.Core.Path.{_≡_};
 ghost use Rattle.lent.specs.Table.{ifPresent};
 ghost use Rattle.omap.specs.Lookup.{lookupSpec};
-ghost use Rattle.address_map.specs.Sections.{inSection, sectionSpec, addressSpec};
-ghost use Rattle.address_map.specs.Paths.{actual, crossLocate, placeCross, placeCrossLocate};
+ghost use Rattle.address_map.specs.Sections.{inSection, addressSpec};
+ghost use Rattle.address_map.specs.Paths.{actual, placeCross};
 ghost use Rattle.gillacorn.specs.Code.{valueAnswer};
-ghost use Rattle.gillacorn.specs.Sections.{offsetAnswer};
 use crate::code::ValueAnswer;
 use crate::code::value_answer;
-use crate::sections::OffsetAnswer;
-use crate::sections::offset_answer;
 use address_map::PdbInternalRva;
 use address_map::PdbInternalSectionOffset;
 use address_map::Rva;
@@ -34,40 +31,6 @@ pub extern "C" fn gillacorn_rva_to_internal_rva<'s>(
 }
 
 #[no_mangle]
-pub extern "C" fn gillacorn_rva_to_section_offset<'s>(
-    rva: u32,
-    has_original: bool,
-    original: &'s [u8],
-    has_transformed: bool,
-    transformed: &'s [u8],
-    has_to_original: bool,
-    to_original: &'s [u8],
-    has_to_transformed: bool,
-    to_transformed: &'s [u8],
-) -> OffsetAnswer
-    ensures { λ r. ⌜ r ≡ offsetAnswer (sectionSpec (actual «has_original» (now (original .entry)) «has_transformed» (now (transformed .entry))) rva) ⌝ }
-{
-    offset_answer(Rva(rva).to_section_offset(has_original, original, has_transformed, transformed))
-}
-
-#[no_mangle]
-pub extern "C" fn gillacorn_rva_to_internal_offset<'s>(
-    rva: u32,
-    has_original: bool,
-    original: &'s [u8],
-    has_transformed: bool,
-    transformed: &'s [u8],
-    has_to_original: bool,
-    to_original: &'s [u8],
-    has_to_transformed: bool,
-    to_transformed: &'s [u8],
-) -> OffsetAnswer
-    ensures { λ r. ⌜ r ≡ offsetAnswer (crossLocate «has_to_original» (now («to_original» .entry)) (ifPresent «has_original» (now (original .entry))) rva) ⌝ }
-{
-    offset_answer(Rva(rva).to_internal_offset(has_original, original, has_to_original, to_original))
-}
-
-#[no_mangle]
 pub extern "C" fn gillacorn_internal_rva_to_rva<'s>(
     rva: u32,
     has_original: bool,
@@ -82,50 +45,6 @@ pub extern "C" fn gillacorn_internal_rva_to_rva<'s>(
     ensures { λ r. ⌜ r ≡ valueAnswer (lookupSpec «has_to_transformed» (now («to_transformed» .entry)) rva) ⌝ }
 {
     value_answer(PdbInternalRva(rva).to_rva(has_to_transformed, to_transformed))
-}
-
-#[no_mangle]
-pub extern "C" fn gillacorn_internal_rva_to_section_offset<'s>(
-    rva: u32,
-    has_original: bool,
-    original: &'s [u8],
-    has_transformed: bool,
-    transformed: &'s [u8],
-    has_to_original: bool,
-    to_original: &'s [u8],
-    has_to_transformed: bool,
-    to_transformed: &'s [u8],
-) -> OffsetAnswer
-    ensures { λ r. ⌜
-        r ≡ offsetAnswer (crossLocate «has_to_transformed» (now («to_transformed» .entry))
-        (actual «has_original» (now (original .entry)) «has_transformed» (now (transformed .entry))) rva)
-        ⌝ }
-{
-    offset_answer(PdbInternalRva(rva).to_section_offset(
-        has_original,
-        original,
-        has_transformed,
-        transformed,
-        has_to_transformed,
-        to_transformed,
-    ))
-}
-
-#[no_mangle]
-pub extern "C" fn gillacorn_internal_rva_to_internal_offset<'s>(
-    rva: u32,
-    has_original: bool,
-    original: &'s [u8],
-    has_transformed: bool,
-    transformed: &'s [u8],
-    has_to_original: bool,
-    to_original: &'s [u8],
-    has_to_transformed: bool,
-    to_transformed: &'s [u8],
-) -> OffsetAnswer
-    ensures { λ r. ⌜ r ≡ offsetAnswer (sectionSpec (ifPresent «has_original» (now (original .entry))) rva) ⌝ }
-{
-    offset_answer(PdbInternalRva(rva).to_internal_offset(has_original, original))
 }
 
 #[no_mangle]
@@ -185,34 +104,6 @@ pub extern "C" fn gillacorn_offset_to_internal_rva<'s>(
 }
 
 #[no_mangle]
-pub extern "C" fn gillacorn_offset_to_internal_offset<'s>(
-    section: u16,
-    offset: u32,
-    has_original: bool,
-    original: &'s [u8],
-    has_transformed: bool,
-    transformed: &'s [u8],
-    has_to_original: bool,
-    to_original: &'s [u8],
-    has_to_transformed: bool,
-    to_transformed: &'s [u8],
-) -> OffsetAnswer
-    ensures { λ r. ⌜
-        r ≡ offsetAnswer (placeCrossLocate «has_transformed» (now (transformed .entry)) «has_to_original»
-        (now («to_original» .entry)) (ifPresent «has_original» (now (original .entry))) (inSection section offset))
-        ⌝ }
-{
-    offset_answer(SectionOffset { offset, section }.to_internal_offset(
-        has_original,
-        original,
-        has_transformed,
-        transformed,
-        has_to_original,
-        to_original,
-    ))
-}
-
-#[no_mangle]
 pub extern "C" fn gillacorn_internal_offset_to_rva<'s>(
     section: u16,
     offset: u32,
@@ -256,33 +147,5 @@ pub extern "C" fn gillacorn_internal_offset_to_internal_rva<'s>(
     value_answer(PdbInternalSectionOffset { offset, section }.to_internal_rva(
         has_original,
         original,
-    ))
-}
-
-#[no_mangle]
-pub extern "C" fn gillacorn_internal_offset_to_section_offset<'s>(
-    section: u16,
-    offset: u32,
-    has_original: bool,
-    original: &'s [u8],
-    has_transformed: bool,
-    transformed: &'s [u8],
-    has_to_original: bool,
-    to_original: &'s [u8],
-    has_to_transformed: bool,
-    to_transformed: &'s [u8],
-) -> OffsetAnswer
-    ensures { λ r. ⌜
-        r ≡ offsetAnswer (placeCrossLocate «has_transformed» (ifPresent «has_original» (now (original .entry)))
-        «has_to_transformed» (now («to_transformed» .entry)) (now (transformed .entry)) (inSection section offset))
-        ⌝ }
-{
-    offset_answer(PdbInternalSectionOffset { offset, section }.to_section_offset(
-        has_original,
-        original,
-        has_transformed,
-        transformed,
-        has_to_transformed,
-        to_transformed,
     ))
 }

@@ -8,5 +8,6 @@ pub mod frames;
 pub mod headers;
 pub mod lists;
 pub mod lookups;
+pub mod offsets;
 pub mod sections;
 pub mod windows;

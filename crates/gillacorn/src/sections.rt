@@ -2,12 +2,13 @@
 ghost use mathlib.Core.Path.{_≡_};
 ghost use Rattle.address_map.specs.Sections.{inSection, sectionSpec, addressSpec, toldLocated};
 ghost use Rattle.gillacorn.specs.Code.{valueAnswer};
-ghost use Rattle.gillacorn.specs.Sections.{offsetAnswer};
+ghost use Rattle.gillacorn.specs.Sections.{extentBy, offsetAnswer};
 use crate::code::ValueAnswer;
 use crate::code::value_answer;
 use address_map::sections::Located;
 use address_map::sections::get_section_offset;
 use address_map::sections::get_virtual_address;
+use pe::ExtentBy;
 
 // A section, from 1, and an offset in it, beside the code.
 #[repr(C)]
@@ -44,11 +45,26 @@ fn no_offset(code: u32) -> OffsetAnswer
     }
 }
 
-#[no_mangle]
-pub extern "C" fn gillacorn_section_offset(sections: &[u8], address: u32) -> OffsetAnswer
-    ensures { λ r. ⌜ r ≡ offsetAnswer (sectionSpec (now (sections .entry)) address) ⌝ }
+// Which size is the extent, as the face is told it. A mark has no third value that would need an answer.
+pub fn extent_by(by_raw_size: bool) -> ExtentBy
+    ensures { λ r. ⌜ r ≡ extentBy «by_raw_size» ⌝ }
 {
-    offset_answer(get_section_offset(sections, address))
+    if by_raw_size {
+        return ExtentBy::RawSize;
+    }
+    ExtentBy::MemorySize
+}
+
+#[no_mangle]
+pub extern "C" fn gillacorn_section_offset_by(
+    by_raw_size: bool,
+    sections: &[u8],
+    address: u32,
+) -> OffsetAnswer
+    ensures { λ r. ⌜ r ≡ offsetAnswer (sectionSpec (extentBy «by_raw_size») (now (sections .entry)) address) ⌝ }
+{
+    let by = extent_by(by_raw_size);
+    offset_answer(get_section_offset(by, sections, address))
 }
 
 #[no_mangle]

@@ -1,4 +1,5 @@
 pub mod Part
+pub mod Extents
 pub mod Given
 pub mod Align
 pub mod Leads

@@ -2,7 +2,6 @@
 ghost use mathlib.Core.Path.{_≡_};
 ghost use Prim.Native.Nat.{_+_, _/_, _≤_, _<_};
 ghost use lib.ListN.{length, take, drop};
-ghost use Rattle.pe.specs.Extent.{extent};
 ghost use Rattle.pe.specs.Header.{headerAt, headerSpec, noHeader, toldGiven, Heads};
 use crate::characteristics::SectionCharacteristics;
 use lent::Checked;
@@ -52,14 +51,6 @@ pub fn virtual_address_at(table: &[u8], place: usize) -> u32
     ensures { λ r. ⌜ r ≡ headerAt (now (table .entry)) place .«virtual_address» ⌝ }
 {
     lent::u32_at(table, 40 * place + 12)
-}
-
-// The extent of the section at a place: the one function that knows which size that is.
-pub fn extent_at(table: &[u8], place: usize) -> u32
-    requires { ⌜ place < length (now table) / 40 ⌝ }
-    ensures { λ r. ⌜ r ≡ extent (headerAt (now (table .entry)) place) ⌝ }
-{
-    lent::u32_at(table, 40 * place + 16)
 }
 
 // The eight bytes at a place.

@@ -16,11 +16,11 @@ use Rattle.address_map.proofs.sections.get_section_offset.Statement.{st
 use Rattle.address_map.proofs.sections.get_section_offset.Tie as tie
 
 abbrev Inv-loop : tie.InvT-loop
-Inv-loop sections address n i₀ i =
-    (i ≤ n) × ((n ≤ 65535) × (sectionSpec sections address ≡ walk address i (rest sections i)))
+Inv-loop by sections address n i₀ i =
+    (i ≤ n) × ((n ≤ 65535) × (sectionSpec by sections address ≡ walk by address i (rest sections i)))
 
 abbrev μ-loop : tie.MeasureT-loop
-μ-loop sections address n i₀ i = n - i
+μ-loop by sections address n i₀ i = n - i
 
 section-shape-requires : tie.Need-section-shape-requires Inv-loop μ-loop
 section-shape-requires c κs = omega arith
@@ -31,7 +31,7 @@ enum-known-shaped c = search needs
 returns : tie.Need-returns Inv-loop μ-loop
 returns c =
     let a = c .before .before .before .before .before .args in
-    section-refused (now (a .sections)) (a .address) (number (c .before .shaped .given .0 .0))
+    section-refused (a .by) (now (a .sections)) (a .address) (number (c .before .shaped .given .0 .0))
     (sym (ap toldChecked (c .before .shaped .given .1)) ∙ c .before .before .before .section-shape .ensures)
 
 enum-told : tie.Need-enum-told Inv-loop μ-loop
@@ -46,7 +46,7 @@ loop-holds : tie.Need-loop-holds Inv-loop μ-loop
 loop-holds c =
     let a = c .before .before .before .before .args in
     let s = now (a .sections) in
-    (omega arith, (at-most sectionTable s (good c), section-good s (a .address) (good c)))
+    (omega arith, (at-most sectionTable s (good c), section-good (a .by) s (a .address) (good c)))
 
 virtual-address-at-requires : tie.Need-virtual-address-at-requires Inv-loop μ-loop
 virtual-address-at-requires c κs = omega arith
@@ -56,16 +56,16 @@ returns-2 c =
     let l = c .before .before .before in
     let a = l .before .before .before .before .before .args in
     let s = now (a .sections) in
-    sym (l .loop .inv .1 .1 ∙ walk-later s (a .address) (l .loop .i) (omega arith) (omega arith))
+    sym (l .loop .inv .1 .1 ∙ walk-later (a .by) s (a .address) (l .loop .i) (omega arith) (omega arith))
 
 extent-at-requires : tie.Need-extent-at-requires Inv-loop μ-loop
 extent-at-requires c κs = omega arith
 
-add-t12 : tie.Need-add-t12 Inv-loop μ-loop
-add-t12 c = omega arith
+add-number : tie.Need-add-number Inv-loop μ-loop
+add-number c = omega arith
 
-cast-t13 : tie.Need-cast-t13 Inv-loop μ-loop
-cast-t13 c = omega arith
+cast-number : tie.Need-cast-number Inv-loop μ-loop
+cast-number c = omega arith
 
 returns-3 : tie.Need-returns-3 Inv-loop μ-loop
 returns-3 c =
@@ -73,7 +73,7 @@ returns-3 c =
     let a = l .before .before .before .before .before .args in
     let s = now (a .sections) in
     rw (c .before .before .before .virtual-address-at .ensures)
-    (sym (l .loop .inv .1 .1 ∙ walk-here s (a .address) (l .loop .i) (omega arith) (omega arith) (omega arith)))
+    (sym (l .loop .inv .1 .1 ∙ walk-here (a .by) s (a .address) (l .loop .i) (omega arith) (omega arith) (omega arith)))
 
 add-i : tie.Need-add-i Inv-loop μ-loop
 add-i c = omega arith
@@ -86,14 +86,14 @@ loop-again c =
     let l = c .before .before .before .before .before in
     let a = l .before .before .before .before .before .args in
     let s = now (a .sections) in
-    let on = walk-on s (a .address) (l .loop .i) (omega arith) (omega arith) (omega arith) in
+    let on = walk-on (a .by) s (a .address) (l .loop .i) (omega arith) (omega arith) (omega arith) in
     (omega arith, (l .loop .inv .1 .0, l .loop .inv .1 .1 ∙ on))
 
 returns-4 : tie.Need-returns-4 Inv-loop μ-loop
 returns-4 c =
     let l = c .before in
     let a = l .before .before .before .before .before .args in
-    sym (l .loop .inv .1 .1 ∙ walk-end (now (a .sections)) (a .address) (l .loop .i) (omega arith))
+    sym (l .loop .inv .1 .1 ∙ walk-end (a .by) (now (a .sections)) (a .address) (l .loop .i) (omega arith))
 
 pub get-section-offset-spec : {M : Type 1} → statement M
 get-section-offset-spec =
@@ -109,8 +109,8 @@ get-section-offset-spec =
     virtual-address-at-requires
     returns-2
     extent-at-requires
-    add-t12
-    cast-t13
+    add-number
+    cast-number
     returns-3
     add-i
     loop-less

@@ -11,4 +11,16 @@ use Rattle.cases.proofs.addresses.all.Tie as tie
 
 pub all-spec : {M : Type 1} → statement M
 unfolding leAt listed shapeFault headerAt extent walk sectionSpec addressSpec
-all-spec = tie.close (tie.spec (λ c κs. refl) (λ c κs. refl) (λ c κs. refl) (λ c. tt))
+all-spec =
+    tie.close
+    (tie.spec
+    (λ c κs. refl)
+    (λ c κs. refl)
+    (λ c κs. refl)
+    (λ c κs. refl)
+    (λ c κs. refl)
+    (λ c κs. refl)
+    (λ c κs. refl)
+    (λ c κs. refl)
+    (λ c κs. refl)
+    (λ c. tt))

@@ -1,0 +1,33 @@
+// The extent of a section: the size with which an address is compared.
+ghost use mathlib.Core.Path.{_≡_};
+ghost use Prim.Native.Nat.{_/_, _<_};
+ghost use lib.ListN.{length};
+ghost use Rattle.pe.specs.Extent.{extent};
+ghost use Rattle.pe.specs.Header.{headerAt};
+
+// Which of a header's two sizes the extent is.
+pub enum ExtentBy {
+    // The size in memory, or the size on disk where that is 0.
+    MemorySize,
+    // The size on disk, as pdb has it.
+    RawSize,
+}
+
+// The extent of the section at a place: the one function that knows which size that is.
+pub fn extent_at(by: ExtentBy, table: &[u8], place: usize) -> u32
+    requires { ⌜ place < length (now table) / 40 ⌝ }
+    ensures { λ r. ⌜ r ≡ extent by (headerAt (now (table .entry)) place) ⌝ }
+{
+    let at = 40 * place;
+    let raw_size = lent::u32_at(table, at + 16);
+    match by {
+        ExtentBy::MemorySize => {
+            let size = lent::u32_at(table, at + 8);
+            if size == 0 {
+                return raw_size;
+            }
+            size
+        }
+        ExtentBy::RawSize => raw_size,
+    }
+}
