@@ -17,13 +17,14 @@ static const uint8_t omap[] = {
     0x00, 0x13, 0, 0, 0x80, 0x50, 0, 0,
 };
 
-/* Two section headers: .text at 1000 and .data at 4000, each of 2000 bytes. */
+/* Two section headers: .text at 1000 and .data at 4000, each of 2000 bytes in memory. Of .data the file
+ * has the first 1800. */
 static const uint8_t sections[] = {
     '.', 't', 'e', 'x', 't', 0, 0, 0,
     0x00, 0x20, 0, 0, 0x00, 0x10, 0, 0, 0x00, 0x20, 0, 0, 0x00, 0x04, 0, 0,
     0, 0, 0, 0, 0, 0, 0, 0, 0, 0, 0, 0, 0x20, 0x00, 0x00, 0x60,
     '.', 'd', 'a', 't', 'a', 0, 0, 0,
-    0x00, 0x20, 0, 0, 0x00, 0x40, 0, 0, 0x00, 0x20, 0, 0, 0x00, 0x24, 0, 0,
+    0x00, 0x20, 0, 0, 0x00, 0x40, 0, 0, 0x00, 0x18, 0, 0, 0x00, 0x24, 0, 0,
     0, 0, 0, 0, 0, 0, 0, 0, 0, 0, 0, 0, 0x40, 0x00, 0x00, 0xC0,
 };
 
@@ -134,6 +135,19 @@ static void all_sections(void)
         refused("sections", given.code);
 }
 
+/* The section of an address, by its size in memory or on disk. gillacorn_section_offset is the first. */
+static void locate(uint32_t address, enum gillacorn_extent by)
+{
+    gillacorn_offset_answer at = gillacorn_section_offset_by(by, sections, sizeof sections, address);
+    const char *size = by == GILLACORN_BY_RAW_SIZE ? "raw" : "memory";
+    if (at.code == GILLACORN_VALUE)
+        printf("%08" PRIX32 " by %s size at %d:%08" PRIX32 "\n", address, size, at.section, at.offset);
+    else if (at.code == GILLACORN_NONE)
+        printf("%08" PRIX32 " by %s size in no section\n", address, size);
+    else
+        refused("section", at.code);
+}
+
 /* An offset in a section, through an address map that has no transformed sections. */
 static void convert(uint16_t section, uint32_t offset)
 {
@@ -176,6 +190,9 @@ int main(void)
     way_back(0x0800, 0x1400, 0x50A0);
     way_back(0x0800, 0x1400, 0x5100);
     all_sections();
+    /* Zero-filled data. */
+    locate(0x5900, GILLACORN_BY_MEMORY_SIZE);
+    locate(0x5900, GILLACORN_BY_RAW_SIZE);
     convert(1, 0x20);
     convert(1, 0x110);
     all_frames();

@@ -180,73 +180,7 @@ gillacorn_sources_answer gillacorn_way_back(const uint8_t *table, size_t length,
 
 /* ---- sections and the address map ---- */
 
-typedef struct { uint32_t code; uint16_t section; uint32_t offset; } gillacorn_offset_answer;
-
-/* The section, from 1, and the offset in it of an address; none; or 1, 2. */
-gillacorn_offset_answer gillacorn_section_offset(const uint8_t *table, size_t length, uint32_t address);
-
-/* The address of an offset in a section; none for section 0 and past the last; or 1, 2, 4. */
-gillacorn_value_answer gillacorn_virtual_address(const uint8_t *table, size_t length, uint16_t section,
-                                          uint32_t offset);
-
-/* The four tables of an address map, each behind its mark. */
-#define GILLACORN_MAP                                                                     \
-    bool has_original_sections, const uint8_t *original_sections, size_t original_length, \
-    bool has_transformed_sections, const uint8_t *transformed_sections, size_t transformed_length, \
-    bool has_to_original, const uint8_t *to_original, size_t to_original_length,          \
-    bool has_to_transformed, const uint8_t *to_transformed, size_t to_transformed_length
-
-/* The same as one struct, and what spreads it: gillacorn_offset_to_rva(1, 0x10, GILLACORN_SPREAD_MAP(map)).
- * The macro reads its argument several times. */
-typedef struct {
-    gillacorn_table original_sections, transformed_sections, to_original, to_transformed;
-} gillacorn_map;
-
-#define GILLACORN_SPREAD_MAP(map)                                                                   \
-    GILLACORN_SPREAD_TABLE((map).original_sections), GILLACORN_SPREAD_TABLE((map).transformed_sections), \
-    GILLACORN_SPREAD_TABLE((map).to_original), GILLACORN_SPREAD_TABLE((map).to_transformed)
-
-/* Each conversion reads the tables on its path alone, in this order, and refuses at the first step
- * that fails; none stops it. Absent original sections count as none. "Actual sections" are the
- * transformed ones where they are present, else the original ones. */
-
-/* An address of the executable, through to-original: 1, 2, 3, none, 4. */
-gillacorn_value_answer gillacorn_rva_to_internal_rva(uint32_t rva, GILLACORN_MAP);
-
-/* An address of the executable, in the actual sections: 1, 2, none. */
-gillacorn_offset_answer gillacorn_rva_to_section_offset(uint32_t rva, GILLACORN_MAP);
-
-/* An address of the executable, through to-original, in the original sections. */
-gillacorn_offset_answer gillacorn_rva_to_internal_offset(uint32_t rva, GILLACORN_MAP);
-
-/* An address of the PDB, through to-transformed: 1, 2, 3, none, 4. */
-gillacorn_value_answer gillacorn_internal_rva_to_rva(uint32_t rva, GILLACORN_MAP);
-
-/* An address of the PDB, through to-transformed, in the actual sections. */
-gillacorn_offset_answer gillacorn_internal_rva_to_section_offset(uint32_t rva, GILLACORN_MAP);
-
-/* An address of the PDB, in the original sections: 1, 2, none. */
-gillacorn_offset_answer gillacorn_internal_rva_to_internal_offset(uint32_t rva, GILLACORN_MAP);
-
-/* An offset in the actual sections, as an address of the executable: 1, 2, none, 4. */
-gillacorn_value_answer gillacorn_offset_to_rva(uint16_t section, uint32_t offset, GILLACORN_MAP);
-
-/* An offset in the actual sections, then through to-original. */
-gillacorn_value_answer gillacorn_offset_to_internal_rva(uint16_t section, uint32_t offset, GILLACORN_MAP);
-
-/* An offset in the transformed sections, through to-original, in the original sections; with no
- * transformed sections the same offset, and no table is read. */
-gillacorn_offset_answer gillacorn_offset_to_internal_offset(uint16_t section, uint32_t offset, GILLACORN_MAP);
-
-/* An offset in the original sections, then through to-transformed. */
-gillacorn_value_answer gillacorn_internal_offset_to_rva(uint16_t section, uint32_t offset, GILLACORN_MAP);
-
-/* An offset in the original sections, as an address of the PDB: 1, 2, none, 4. */
-gillacorn_value_answer gillacorn_internal_offset_to_internal_rva(uint16_t section, uint32_t offset, GILLACORN_MAP);
-
-/* An offset in the original sections, through to-transformed, in the transformed sections; with no
- * transformed sections the same offset, and no table is read. */
-gillacorn_offset_answer gillacorn_internal_offset_to_section_offset(uint16_t section, uint32_t offset, GILLACORN_MAP);
+#include "gillacorn_addresses.h"
 
 /* ---- frames ---- */
 

@@ -1,7 +1,8 @@
 /* What no proof covers: the boundary between C and the archive. Each group lends the same tables in
  * another way and asks every function the same questions; the answers have to be the same, and
- * nothing may be touched that was not lent. boundary.sh also builds it over stand-ins with a planted
- * fault each (boundary_faults.h), which it has to see.
+ * nothing may be touched that was not lent. Some groups tell the answers: how much is written, and by
+ * which size of a section an address is found. boundary.sh also builds it over stand-ins with a
+ * planted fault each (boundary_faults.h), which it has to see.
  */
 #define _DEFAULT_SOURCE
 #include "gillacorn.h"
@@ -206,6 +207,53 @@ static void outputs(void)
     written(damaged, sizeof damaged, 16, GILLACORN_TOO_LARGE);
 }
 
+/* ---- the two sizes of a section ---- */
+
+static void located(const char *name, gillacorn_offset_answer given, bool found, uint16_t section, uint32_t offset)
+{
+    asked = name;
+    if (given.code != (found ? GILLACORN_VALUE : GILLACORN_NONE))
+        fails("another code");
+    if (given.section != (found ? section : 0) || given.offset != (found ? offset : 0))
+        fails("another place");
+}
+
+/* By the memory size, by the raw size, and by the function that leaves the choice out. */
+#define BY_EACH(section, name, ...)                                                                     \
+    located(#name "_by", name##_by(GILLACORN_BY_MEMORY_SIZE, __VA_ARGS__), in_memory, section, offset); \
+    located(#name "_by", name##_by(GILLACORN_BY_RAW_SIZE, __VA_ARGS__), on_disk, section, offset);      \
+    located(#name, name(__VA_ARGS__), in_memory, section, offset)
+
+/* An offset in the last section, the third at 4000, which was moved and is the first at 8000: all four
+ * tables of the map differ. */
+static void find(uint32_t offset, bool in_memory, bool on_disk)
+{
+    uint8_t moved[40], to_original[8], to_transformed[8];
+    memcpy(moved, sections + 80, 40), put(moved + 12, 0x8000);
+    put(to_original, 0x8000), put(to_original + 4, 0x4000);
+    put(to_transformed, 0x4000), put(to_transformed + 4, 0x8000);
+    gillacorn_map map = {gillacorn_given(sections, sizeof sections), gillacorn_given(moved, sizeof moved),
+                         gillacorn_given(to_original, 8), gillacorn_given(to_transformed, 8)};
+    uint32_t rva = 0x8000 + offset, internal = 0x4000 + offset;
+    BY_EACH(1, gillacorn_section_offset, moved, sizeof moved, rva);
+    BY_EACH(1, gillacorn_rva_to_section_offset, rva, GILLACORN_SPREAD_MAP(map));
+    BY_EACH(3, gillacorn_rva_to_internal_offset, rva, GILLACORN_SPREAD_MAP(map));
+    BY_EACH(1, gillacorn_internal_rva_to_section_offset, internal, GILLACORN_SPREAD_MAP(map));
+    BY_EACH(3, gillacorn_internal_rva_to_internal_offset, internal, GILLACORN_SPREAD_MAP(map));
+    BY_EACH(3, gillacorn_offset_to_internal_offset, 1, offset, GILLACORN_SPREAD_MAP(map));
+    BY_EACH(1, gillacorn_internal_offset_to_section_offset, 3, offset, GILLACORN_SPREAD_MAP(map));
+}
+
+/* The edges of the zeros behind the raw data. */
+static void extents(void)
+{
+    group = "extents";
+    find(RAW_SIZE - 1, true, true);
+    find(RAW_SIZE, true, false);
+    find(0x1FFF, true, false);
+    find(0x2000, false, false);
+}
+
 #include "boundary_bundles.h"
 
 int main(void)
@@ -219,6 +267,7 @@ int main(void)
     empty();
     absent();
     outputs();
+    extents();
     bundle_outputs();
     by_lengths();
     return 0;

@@ -13,13 +13,13 @@ static gillacorn_value_answer faulty(bool present, const uint8_t *table, size_t 
 
 #elif FAULT == 2 /* fault 2: before */
 /* Reads one byte before the table. */
-static gillacorn_offset_answer faulty(const uint8_t *table, size_t length, uint32_t address)
+static gillacorn_offset_answer faulty(bool by_raw_size, const uint8_t *table, size_t length, uint32_t address)
 {
     if (length > 0)
         (void)((const volatile uint8_t *)table)[-1];
-    return gillacorn_section_offset(table, length, address);
+    return gillacorn_section_offset_by(by_raw_size, table, length, address);
 }
-#define gillacorn_section_offset faulty
+#define gillacorn_section_offset_by faulty
 
 #elif FAULT == 3 /* fault 3: unaligned */
 /* Takes a table to begin at a multiple of 4. */
@@ -76,11 +76,7 @@ static gillacorn_pieces_answer faulty(bool present, const uint8_t *table, size_t
 /* Takes the whole register for its section number. */
 static gillacorn_value_answer faulty(uint64_t section, uint32_t offset, GILLACORN_MAP)
 {
-    return gillacorn_offset_to_rva(
-        section > 0xFFFF ? 0 : (uint16_t)section, offset, has_original_sections, original_sections,
-        original_length, has_transformed_sections, transformed_sections, transformed_length,
-        has_to_original, to_original, to_original_length, has_to_transformed, to_transformed,
-        to_transformed_length);
+    return gillacorn_offset_to_rva(section > 0xFFFF ? 0 : (uint16_t)section, offset, GILLACORN_MAP_NAMES);
 }
 #define gillacorn_offset_to_rva faulty
 
@@ -122,7 +118,7 @@ static gillacorn_spans_answer faulty(const uint8_t *file, size_t length)
 }
 #define gillacorn_bundle_read faulty
 
-#elif FAULT >= 13
+#elif FAULT >= 13 && FAULT <= 18
 #define PART(name) bool has_##name, const uint8_t *name, size_t name##_length
 #define PARTS_BUT_LAST PART(a), PART(b), PART(c), PART(d), PART(e)
 #define GIVEN(name) has_##name, name, name##_length
@@ -186,4 +182,28 @@ static gillacorn_bytes_answer faulty(PARTS_BUT_LAST, uint64_t has_f, const uint8
 }
 #endif
 #define gillacorn_bundle_write faulty
+
+#elif FAULT == 19 /* fault 19: extents */
+/* Takes each size for the other. */
+static gillacorn_offset_answer faulty(bool by_raw_size, uint32_t rva, GILLACORN_MAP)
+{
+    return gillacorn_rva_to_internal_offset_by(!by_raw_size, rva, GILLACORN_MAP_NAMES);
+}
+#define gillacorn_rva_to_internal_offset_by faulty
+
+#elif FAULT == 20 /* fault 20: extents */
+/* Takes the raw size where no choice is given. */
+static gillacorn_offset_answer faulty(uint16_t section, uint32_t offset, GILLACORN_MAP)
+{
+    return gillacorn_internal_offset_to_section_offset_by(GILLACORN_BY_RAW_SIZE, section, offset, GILLACORN_MAP_NAMES);
+}
+#define gillacorn_internal_offset_to_section_offset faulty
+
+#elif FAULT == 21 /* fault 21: upper bits */
+/* Takes the whole register for the choice. */
+static gillacorn_offset_answer faulty(uint64_t by_raw_size, uint16_t section, uint32_t offset, GILLACORN_MAP)
+{
+    return gillacorn_offset_to_internal_offset_by(by_raw_size == 1, section, offset, GILLACORN_MAP_NAMES);
+}
+#define gillacorn_offset_to_internal_offset_by faulty
 #endif

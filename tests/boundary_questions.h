@@ -11,6 +11,7 @@ static void fails(const char *what)
 
 /* ---- tables: four OMAP records, three headers, two old and two new frames; a bundle of them ---- */
 
+#define RAW_SIZE 0x100 /* of each section */
 static uint8_t omap[32], sections[120], old_frames[32], new_frames[64];
 static uint8_t bundle[sizeof sections + sizeof omap + sizeof new_frames + 56];
 
@@ -28,10 +29,13 @@ static void fill_tables(void)
     /* Every byte of a record counts: none is 0 by itself. */
     for (int i = 0; i < 120; i++)
         sections[i] = (uint8_t)(1 + i % 100);
+    /* In memory they fill 1000..6000; on disk each has RAW_SIZE bytes. */
+    static const uint32_t starts[] = {0x1000, 0x2000, 0x4000, 0x6000};
     for (int i = 0; i < 3; i++) {
         memcpy(sections + 40 * i, ".textbss", 8);
-        put(sections + 40 * i + 12, 0x1000 + 0x1000 * (uint32_t)i);
-        put(sections + 40 * i + 16, 0x1000);
+        put(sections + 40 * i + 8, starts[i + 1] - starts[i]);
+        put(sections + 40 * i + 12, starts[i]);
+        put(sections + 40 * i + 16, RAW_SIZE);
     }
     for (int i = 0; i < 64; i++)
         new_frames[i] = old_frames[i % 32] = (uint8_t)(1 + i);
@@ -95,8 +99,13 @@ static void next_answer(void)
 
 #define VALUE(call) do { gillacorn_value_answer g = call; next_answer(); tell(g.code); tell(g.value); } while (0)
 #define OFFSET(call) do { gillacorn_offset_answer g = call; next_answer(); tell(g.code); tell(g.section); tell(g.offset); } while (0)
-#define CONVERSION(from, kind, answer, arguments, ...) \
-    kind(AS(answer, gillacorn_##from, arguments, MAP)(__VA_ARGS__, GIVE_MAP(l)))
+/* A conversion to an address. */
+#define CONVERSION(from, arguments, ...) \
+    VALUE(AS(gillacorn_value_answer, gillacorn_##from, arguments, MAP)(__VA_ARGS__, GIVE_MAP(l)))
+/* One to a section, by the memory size and by the raw size. */
+#define LOCATED(from, arguments, ...) \
+    for (int by = 0; by < 2; by++) \
+        OFFSET(AS(gillacorn_offset_answer, gillacorn_##from##_by, uint64_t, arguments, MAP)(BIT(by), __VA_ARGS__, GIVE_MAP(l)))
 
 static void tell_frame(const gillacorn_frame *f)
 {
@@ -128,7 +137,8 @@ static void ask_bare(const lent *l, uint32_t a)
         f = AS(gillacorn_frame_answer, gillacorn_new_frame, TABLE, size_t)(GIVE(l->new_frames), place);
         next_answer(), tell(f.code), tell_frame(&f.frame);
     }
-    OFFSET(AS(gillacorn_offset_answer, gillacorn_section_offset, TABLE, uint64_t)(GIVE(l->sections), WORD(a)));
+    for (int by = 0; by < 2; by++)
+        OFFSET(AS(gillacorn_offset_answer, gillacorn_section_offset_by, uint64_t, TABLE, uint64_t)(BIT(by), GIVE(l->sections), WORD(a)));
     gillacorn_pair_answer p = AS(gillacorn_pair_answer, gillacorn_clash, TABLE, uint64_t, uint64_t)(GIVE(l->omap), WORD(a), WORD(0x1400));
     next_answer(), tell(p.code), tell(p.first), tell(p.second);
     gillacorn_sources_answer s = AS(gillacorn_sources_answer, gillacorn_way_back, TABLE, uint64_t, uint64_t, uint64_t)(GIVE(l->omap), WORD(0), WORD(0x1400), WORD(a + 0x4000));
@@ -167,20 +177,20 @@ static void ask_marked(const lent *l, uint32_t a)
         next_answer(), tell(step.code), tell(step.start), tell(step.end), tell(step.cursor.address);
         tell(step.cursor.end), tell(step.cursor.source), tell(step.cursor.target), tell(step.cursor.place);
     }
-    CONVERSION(rva_to_internal_rva, VALUE, gillacorn_value_answer, uint64_t, WORD(a));
-    CONVERSION(rva_to_section_offset, OFFSET, gillacorn_offset_answer, uint64_t, WORD(a));
-    CONVERSION(rva_to_internal_offset, OFFSET, gillacorn_offset_answer, uint64_t, WORD(a));
-    CONVERSION(internal_rva_to_rva, VALUE, gillacorn_value_answer, uint64_t, WORD(a));
-    CONVERSION(internal_rva_to_section_offset, OFFSET, gillacorn_offset_answer, uint64_t, WORD(a));
-    CONVERSION(internal_rva_to_internal_offset, OFFSET, gillacorn_offset_answer, uint64_t, WORD(a));
+    CONVERSION(rva_to_internal_rva, uint64_t, WORD(a));
+    LOCATED(rva_to_section_offset, uint64_t, WORD(a));
+    LOCATED(rva_to_internal_offset, uint64_t, WORD(a));
+    CONVERSION(internal_rva_to_rva, uint64_t, WORD(a));
+    LOCATED(internal_rva_to_section_offset, uint64_t, WORD(a));
+    LOCATED(internal_rva_to_internal_offset, uint64_t, WORD(a));
 #define PLACE uint64_t, uint64_t
     for (uint32_t number = 0; number < 5; number++) {
-        CONVERSION(offset_to_rva, VALUE, gillacorn_value_answer, PLACE, HALF(number), WORD(a));
-        CONVERSION(offset_to_internal_rva, VALUE, gillacorn_value_answer, PLACE, HALF(number), WORD(a));
-        CONVERSION(offset_to_internal_offset, OFFSET, gillacorn_offset_answer, PLACE, HALF(number), WORD(a));
-        CONVERSION(internal_offset_to_rva, VALUE, gillacorn_value_answer, PLACE, HALF(number), WORD(a));
-        CONVERSION(internal_offset_to_internal_rva, VALUE, gillacorn_value_answer, PLACE, HALF(number), WORD(a));
-        CONVERSION(internal_offset_to_section_offset, OFFSET, gillacorn_offset_answer, PLACE, HALF(number), WORD(a));
+        CONVERSION(offset_to_rva, PLACE, HALF(number), WORD(a));
+        CONVERSION(offset_to_internal_rva, PLACE, HALF(number), WORD(a));
+        LOCATED(offset_to_internal_offset, PLACE, HALF(number), WORD(a));
+        CONVERSION(internal_offset_to_rva, PLACE, HALF(number), WORD(a));
+        CONVERSION(internal_offset_to_internal_rva, PLACE, HALF(number), WORD(a));
+        LOCATED(internal_offset_to_section_offset, PLACE, HALF(number), WORD(a));
     }
     VALUE(AS(gillacorn_value_answer, gillacorn_frames_empty, MARKED, MARKED)(GIVE_FRAMES(l)));
     gillacorn_frame_cursor_answer at = AS(gillacorn_frame_cursor_answer, gillacorn_frames_at, uint64_t, MARKED, MARKED)(WORD(a), GIVE_FRAMES(l));

@@ -36,6 +36,12 @@ done
 for std in c++11 c++17; do
     $compile_cxx -std=$std "${strict[@]}" -fsyntax-only -x c++ "$header" || fails "the header in $std"
 done
+# A part of it alone is told in one sentence.
+if $compile_c -fsyntax-only -x c "$work/installed/include/gillacorn_addresses.h" 2>"$work/said"; then
+    fails "a part of the header is taken alone"
+fi
+[ "$(grep -c 'error: ' "$work/said")" -eq 1 ] && grep -q 'include that one' "$work/said" ||
+    fails "a part of the header alone: $(cat "$work/said")"
 mkdir "$work/other"
 cp "$work"/installed/include/* "$work/other/"
 sed 's/uint32_t start, end; gillacorn_cursor cursor/uint32_t end, start; gillacorn_cursor cursor/' "$header" >"$work/other/gillacorn.h"
@@ -84,6 +90,8 @@ no clash in 00001000..00001300
 00005100 from 00001380
 section 1 .text at 00001000, code
 section 2 .data at 00004000
+00005900 by memory size at 2:00001900
+00005900 by raw size in no section
 offset 1:00000020 at 00005020
 offset 1:00000110 is gone
 frame 00000100, standard, locals 8

@@ -1,7 +1,8 @@
 #!/usr/bin/env bash
 # The command line `gillacorn` as a person runs it: each word, each refusal, bad words, and files,
-# pipes and outputs that fail. Bundles have a file of their own, cli_bundle.sh. Refusals 5 and 6 can't
-# come: the output always has room, and every walk begins at a window.
+# pipes and outputs that fail. Bundles and `locate` have files of their own, cli_bundle.sh and
+# cli_locate.sh. Refusals 5 and 6 can't come: the output always has room, and every walk begins at a
+# window.
 # Exits with 77, after one line, where something can't be had.
 set -euo pipefail
 . "$(dirname "$0")/../rust/lib.sh"
@@ -241,6 +242,7 @@ is 0 '{"sections":[{"number":1,"name":"\u001b\"\\","virtual_size":2748,"virtual_
     sections --json one
 
 . "$repository/tests/cli_bundle.sh"
+. "$repository/tests/cli_locate.sh"
 
 # ---- bad words and help
 
@@ -269,7 +271,7 @@ for words in --help -h 'draw --help' 'help frames' 'bundle --help' 'bundle pack 
     asked=$((asked + 1))
 done
 run gillacorn --help >out
-for word in draw lookup window clash back sections frames bundle; do
+for word in draw lookup window clash back sections locate frames bundle; do
     grep -q "^  $word " out || fail "--help has no word $word"
 done
 

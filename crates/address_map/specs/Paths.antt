@@ -9,8 +9,9 @@
 --
 -- `cross` goes through the OMAP: to-original from the actual side, to-transformed from the internal side. `locate` and
 -- `place` use the sections of their side: for the actual side the transformed ones if they are there, else the original
--- ones. (*) returns its input where there are no transformed sections. A path stops at the first step that gives none
--- or is refused, so a table is checked when the path first reads it.
+-- ones; `locate` compares with the extent that the caller chooses. (*) returns its input where there are no transformed
+-- sections. A path stops at the first step that gives none or is refused, so a table is checked when the path first
+-- reads it.
 use Prim.Native.Nat.{ℕ}
 use mathlib.Core.Bool.{Bool, cond}
 use mathlib.Core.List.{List}

@@ -64,17 +64,27 @@ told! {
     PdbInternalSectionOffset(given) = offset(given.section, given.offset);
 }
 
+/// Both rules of an address to its section, by memory size and by raw size, which is pdb's. The two
+/// sizes are the same in every header, so that all have the same answers.
+const RULES: [(bool, &str); 2] = [(false, ""), (true, " by raw size")];
+
 fn to_section(driver: &mut Driver, headers: usize) {
     let bytes = sections(headers, b".text");
     let tables = Tables::new(&[Some(&bytes), None, None, None]);
     let map = tables.address_map().unwrap();
     let asked = numbers(questions(headers), 0..headers as u32 * SECTION);
-    driver.row(
-        &format!("address to section, {}", many(headers, "header")),
-        asked.len(),
-        || all(&asked, |a| face::gillacorn_section_offset(&bytes, a).told()),
-        || all(&asked, |a| Rva(a).to_section_offset(&map).told()),
-    );
+    for (by_raw_size, by) in RULES {
+        driver.row(
+            &format!("address to section{by}, {}", many(headers, "header")),
+            asked.len(),
+            || {
+                all(&asked, |a| {
+                    face::gillacorn_section_offset_by(by_raw_size, &bytes, a).told()
+                })
+            },
+            || all(&asked, |a| Rva(a).to_section_offset(&map).told()),
+        );
+    }
 }
 
 fn from_section(driver: &mut Driver) {
@@ -116,10 +126,20 @@ fn conversions(driver: &mut Driver, headers: usize, records: usize) {
 
     macro_rules! row {
         ($text:literal, $face:ident, $from:ident, $to:ident, |$a:ident| $($word:expr),+) => {
+            row!(one $text, $face(), $from, $to, |$a| $($word),+)
+        };
+        // By either rule, where an address is located.
+        (by $text:literal, $face:ident, $from:ident, $to:ident, |$a:ident| $($word:expr),+) => {
+            for (by_raw_size, by) in RULES {
+                row!(one format!("{}{by}", $text), $face(by_raw_size,), $from, $to, |$a| $($word),+)
+            }
+        };
+        (one $text:expr, $face:ident($($by:tt)*), $from:ident, $to:ident,
+            |$a:ident| $($word:expr),+) => {
             driver.row(
                 &format!("{}, {size}", $text),
                 asked.len(),
-                || all(&asked, |$a| face::$face($($word,)+ &four).told()),
+                || all(&asked, |$a| face::$face($($by)* $($word,)+ &four).told()),
                 || all(&asked, |$a| row!($from $($word),+).$to(&map).told()),
             )
         };
@@ -138,15 +158,15 @@ fn conversions(driver: &mut Driver, headers: usize, records: usize) {
         |a| a
     );
     row!(
-        "rva to section offset",
-        gillacorn_rva_to_section_offset,
+        by "rva to section offset",
+        gillacorn_rva_to_section_offset_by,
         Rva,
         to_section_offset,
         |a| a
     );
     row!(
-        "rva to internal offset",
-        gillacorn_rva_to_internal_offset,
+        by "rva to internal offset",
+        gillacorn_rva_to_internal_offset_by,
         Rva,
         to_internal_offset,
         |a| a
@@ -159,15 +179,15 @@ fn conversions(driver: &mut Driver, headers: usize, records: usize) {
         |a| a
     );
     row!(
-        "internal rva to section offset",
-        gillacorn_internal_rva_to_section_offset,
+        by "internal rva to section offset",
+        gillacorn_internal_rva_to_section_offset_by,
         PdbInternalRva,
         to_section_offset,
         |a| a
     );
     row!(
-        "internal rva to internal offset",
-        gillacorn_internal_rva_to_internal_offset,
+        by "internal rva to internal offset",
+        gillacorn_internal_rva_to_internal_offset_by,
         PdbInternalRva,
         to_internal_offset,
         |a| a
@@ -189,8 +209,8 @@ fn conversions(driver: &mut Driver, headers: usize, records: usize) {
         offset(a)
     );
     row!(
-        "section offset to internal offset",
-        gillacorn_offset_to_internal_offset,
+        by "section offset to internal offset",
+        gillacorn_offset_to_internal_offset_by,
         SectionOffset,
         to_internal_offset,
         |a| section(a),
@@ -213,8 +233,8 @@ fn conversions(driver: &mut Driver, headers: usize, records: usize) {
         offset(a)
     );
     row!(
-        "internal offset to section offset",
-        gillacorn_internal_offset_to_section_offset,
+        by "internal offset to section offset",
+        gillacorn_internal_offset_to_section_offset_by,
         PdbInternalSectionOffset,
         to_section_offset,
         |a| section(a),

@@ -94,20 +94,20 @@ face! {
     gillacorn_clash(table: bytes, a: u32, b: u32) -> PairAnswer;
     gillacorn_way_back(table: bytes, a: u32, b: u32, t: u32) -> SourcesAnswer;
 
-    gillacorn_section_offset(table: bytes, address: u32) -> OffsetAnswer;
+    gillacorn_section_offset_by(by_raw_size: bool, table: bytes, address: u32) -> OffsetAnswer;
     gillacorn_virtual_address(table: bytes, section: u16, offset: u32) -> ValueAnswer;
     gillacorn_rva_to_internal_rva(rva: u32, tables: map) -> ValueAnswer;
-    gillacorn_rva_to_section_offset(rva: u32, tables: map) -> OffsetAnswer;
-    gillacorn_rva_to_internal_offset(rva: u32, tables: map) -> OffsetAnswer;
+    gillacorn_rva_to_section_offset_by(by_raw_size: bool, rva: u32, tables: map) -> OffsetAnswer;
+    gillacorn_rva_to_internal_offset_by(by_raw_size: bool, rva: u32, tables: map) -> OffsetAnswer;
     gillacorn_internal_rva_to_rva(rva: u32, tables: map) -> ValueAnswer;
-    gillacorn_internal_rva_to_section_offset(rva: u32, tables: map) -> OffsetAnswer;
-    gillacorn_internal_rva_to_internal_offset(rva: u32, tables: map) -> OffsetAnswer;
+    gillacorn_internal_rva_to_section_offset_by(by_raw_size: bool, rva: u32, tables: map) -> OffsetAnswer;
+    gillacorn_internal_rva_to_internal_offset_by(by_raw_size: bool, rva: u32, tables: map) -> OffsetAnswer;
     gillacorn_offset_to_rva(section: u16, offset: u32, tables: map) -> ValueAnswer;
     gillacorn_offset_to_internal_rva(section: u16, offset: u32, tables: map) -> ValueAnswer;
-    gillacorn_offset_to_internal_offset(section: u16, offset: u32, tables: map) -> OffsetAnswer;
+    gillacorn_offset_to_internal_offset_by(by_raw_size: bool, section: u16, offset: u32, tables: map) -> OffsetAnswer;
     gillacorn_internal_offset_to_rva(section: u16, offset: u32, tables: map) -> ValueAnswer;
     gillacorn_internal_offset_to_internal_rva(section: u16, offset: u32, tables: map) -> ValueAnswer;
-    gillacorn_internal_offset_to_section_offset(section: u16, offset: u32, tables: map) -> OffsetAnswer;
+    gillacorn_internal_offset_to_section_offset_by(by_raw_size: bool, section: u16, offset: u32, tables: map) -> OffsetAnswer;
 
     gillacorn_old_frame(table: bytes, place: usize) -> FrameAnswer;
     gillacorn_new_frame(table: bytes, place: usize) -> FrameAnswer;

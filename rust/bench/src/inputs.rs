@@ -4,7 +4,7 @@ pub const MOST: usize = 1_048_576;
 /// The three sizes of OMAP and frame tables, in records, and those of section tables.
 pub const SIZES: [usize; 3] = [1, 1_000, MOST];
 pub const HEADERS: [usize; 3] = [5, 96, 65_535];
-/// The size of a section, and of the part of it that is in the file.
+/// The size of a section in memory, and of its raw data.
 pub const SECTION: u32 = 0x1000;
 
 fn put(record: &mut [u8], at: usize, number: u32) {
@@ -56,6 +56,7 @@ pub fn apart(pieces: usize) -> Vec<u8> {
 pub fn sections(headers: usize, name: &[u8]) -> Vec<u8> {
     table(40, headers, |place, record| {
         record[..name.len()].copy_from_slice(name);
+        put(record, 8, SECTION);
         put(record, 12, place * SECTION);
         put(record, 16, SECTION);
         put(record, 36, 0x6050_0020 ^ place << 8);

@@ -3,7 +3,7 @@
 use std::ffi::OsString;
 use std::ops::Range;
 
-use clap::{value_parser, Arg, ArgMatches};
+use clap::{value_parser, Arg, ArgAction, ArgMatches};
 
 use crate::answer::Stop;
 use crate::parts::Part;
@@ -56,6 +56,15 @@ pub fn omap_table() -> [Arg; 2] {
     ]
 }
 
+/// A file with section headers.
+pub fn section_table() -> [Arg; 2] {
+    let help = "A PE file, or a bare table of 40 bytes a header; - for standard input";
+    [
+        file("FILE", help).required(true),
+        tables::part(Part::SECTIONS),
+    ]
+}
+
 /// A window of a table's addresses.
 pub fn window_ends() -> [Arg; 2] {
     [
@@ -68,6 +77,14 @@ pub fn window_ends() -> [Arg; 2] {
             .required(true)
             .value_parser(hex),
     ]
+}
+
+/// An option without a value.
+pub fn flag(name: &'static str, help: &'static str) -> Arg {
+    Arg::new(name)
+        .help(help)
+        .long(name)
+        .action(ArgAction::SetTrue)
 }
 
 pub fn addresses(name: &'static str, help: &'static str) -> Arg {

@@ -6,17 +6,15 @@ use std::io::{self, Write};
 use std::path::{Path, PathBuf};
 use std::process;
 
-use clap::{Arg, ArgAction};
+use clap::Arg;
 
 use crate::answer::Stop;
+use crate::arguments;
 
 pub const FORCE: &str = "force";
 
 pub fn force() -> Arg {
-    Arg::new(FORCE)
-        .long(FORCE)
-        .action(ArgAction::SetTrue)
-        .help("Overwrite files that are there")
+    arguments::flag(FORCE, "Overwrite files that are there")
 }
 
 /// A file to write.

@@ -7,8 +7,8 @@ use clap::{Arg, ArgMatches};
 use gillacorn::Bundle;
 
 use crate::answer::Stop;
-use crate::input;
 use crate::parts::Part;
+use crate::{arguments, input, pe_file};
 
 const PART: &str = "part";
 
@@ -22,7 +22,7 @@ pub fn part(parts: [Part; 2]) -> Arg {
 }
 
 /// The part of a bundle that was asked for, if one was.
-pub fn asked_part(matches: &ArgMatches) -> Option<Part> {
+fn asked_part(matches: &ArgMatches) -> Option<Part> {
     let name = matches.get_one::<String>(PART)?;
     Part::ALL.into_iter().find(|part| part.name() == name)
 }
@@ -36,6 +36,18 @@ pub fn read(name: &OsStr, matches: &ArgMatches) -> Result<Vec<u8>, Stop> {
             table.ok_or_else(|| absent(name, &[part]))
         }
     }
+}
+
+/// The section headers of the PE file, the bare table or the part of a bundle that was named.
+pub fn read_sections(matches: &ArgMatches) -> Result<Vec<u8>, Stop> {
+    let name = arguments::required(matches, "FILE");
+    let file = read(name, matches)?;
+    if asked_part(matches).is_some() {
+        return Ok(file);
+    }
+    let table = pe_file::section_table(&file);
+    let table = table.map_err(|why| Stop::Bad(format!("{}: {why}", input::shown(name))))?;
+    Ok(table.to_vec())
 }
 
 /// The bytes of these parts of the bundle in a file.

@@ -5,25 +5,27 @@ mod bundle;
 mod clash;
 mod draw;
 mod frames;
+mod locate;
 mod lookup;
 mod sections;
 mod window;
 
-use clap::{Arg, ArgAction, ArgMatches, Command};
+use clap::{ArgMatches, Command};
 
 use crate::answer::Answered;
-use crate::arguments::JSON;
+use crate::arguments::{self, JSON};
 
 /// A word: what it takes, and what it does.
 type Word = (fn() -> Command, fn(&ArgMatches) -> Answered);
 
-const WORDS: [Word; 8] = [
+const WORDS: [Word; 9] = [
     (draw::command, draw::run),
     (lookup::command, lookup::run),
     (window::command, window::run),
     (clash::command, clash::run),
     (back::command, back::run),
     (sections::command, sections::run),
+    (locate::command, locate::run),
     (frames::command, frames::run),
     (bundle::command, bundle::run),
 ];
@@ -35,17 +37,13 @@ Exit status: 0 an answer; 1 a refusal or a clash; 2 bad words, an address
 outside A..B, or input or output that failed.";
 
 pub fn command() -> Command {
-    let json = Arg::new(JSON)
-        .long(JSON)
-        .global(true)
-        .action(ArgAction::SetTrue)
-        .help("Answer with one JSON object; numbers are decimal");
+    let json = arguments::flag(JSON, "Answer with one JSON object; numbers are decimal");
     Command::new("gillacorn")
         .version(env!("CARGO_PKG_VERSION"))
         .about("Address translation that is proved: a value, a hole, or a numbered refusal")
         .after_help(AFTER)
         .subcommand_required(true)
-        .arg(json)
+        .arg(json.global(true))
         .subcommands(commands(&WORDS))
 }
 

@@ -5,7 +5,7 @@ use std::fmt::{LowerHex, Write};
 use gillacorn::ffi::{Cursor, Frame, FrameCursor, Lent};
 use gillacorn::{ImageSectionHeader, SectionCharacteristics};
 
-use crate::rules::{Answer, Quick};
+use crate::rules::{Answer, By, Quick};
 
 /// The input of one question, part by part.
 #[derive(Default)]
@@ -15,6 +15,8 @@ pub struct Case {
     pub bytes: Vec<u8>,
     /// Something did not fit its bytes, so that the case can't be replayed.
     pub too_wide: bool,
+    /// An address located by the other size gives another answer: the case tells the two apart.
+    pub telling: bool,
 }
 
 impl Case {
@@ -53,6 +55,12 @@ impl Case {
         }
         number.put(&mut self.bytes);
         self
+    }
+
+    /// The size by which an address is located, and whether the case is telling.
+    pub fn by(&mut self, by: By, telling: bool) -> &mut Self {
+        self.telling = telling;
+        self.number("by", by as u8)
     }
 
     /// A place, which has 32 bits in a replay.

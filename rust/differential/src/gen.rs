@@ -1,7 +1,10 @@
 //! Tables: good ones around each boundary, and damaged copies of good ones.
 
+mod sections;
+
 use std::ops::Deref;
 
+pub use self::sections::{name, omap_into, section_address, sections, EDGES};
 use crate::rng::Rng;
 use crate::rules::{u32_at, Kind};
 
@@ -61,74 +64,6 @@ pub fn omap(rng: &mut Rng) -> Vec<u8> {
         push(&mut table, &[source, target]);
     }
     table
-}
-
-pub fn sections(rng: &mut Rng) -> Vec<u8> {
-    let count = count(rng).min(20);
-    let mut starts = rising(rng, count);
-    if rng.one_in(6) {
-        shuffle(rng, &mut starts);
-    }
-    let mut table = Vec::with_capacity(40 * count);
-    for (place, &start) in starts.iter().enumerate() {
-        table.extend_from_slice(&name(rng));
-        let next = starts.get(place + 1).copied().unwrap_or(TOP);
-        let size = match rng.below(8) {
-            0 => 0,
-            1 => 1,
-            2 => TOP - start,
-            3 if rng.one_in(3) => (TOP - start).saturating_add(1 + rng.below(2) as u32),
-            4 => rng.u32() >> rng.below(32),
-            _ => next
-                .saturating_sub(start)
-                .saturating_sub(rng.below(3) as u32),
-        };
-        let rest = [
-            rng.u32(),
-            start,
-            size,
-            rng.u32(),
-            rng.u32(),
-            rng.u32(),
-            rng.u32(),
-        ];
-        push(&mut table, &rest);
-        push(&mut table, &[rng.u32()]);
-    }
-    table
-}
-
-/// Bytes at the edges of RFC 3629's ranges.
-pub const EDGES: [u8; 23] = [
-    0x00, 0x20, 0x2e, 0x41, 0x7f, 0x80, 0x8f, 0x90, 0x9f, 0xa0, 0xbf, 0xc0, 0xc1, 0xc2, 0xdf, 0xe0,
-    0xed, 0xef, 0xf0, 0xf3, 0xf4, 0xf5, 0xff,
-];
-
-pub fn name(rng: &mut Rng) -> [u8; 8] {
-    let mut name = [0; 8];
-    match rng.below(4) {
-        0 => name[..5].copy_from_slice(b".text"),
-        1 => name = rng.next().to_le_bytes(),
-        2 => name.iter_mut().for_each(|byte| *byte = rng.pick(&EDGES)),
-        _ => {
-            // Whole characters of every length, as many as fit.
-            let mut at = 0;
-            loop {
-                let wide = rng.pick(&[0x7f, 0x7ff, 0xffff, 0x10_ffff]);
-                let letter = char::from_u32(1 + rng.below(wide) as u32).unwrap_or('\u{d7ff}');
-                let end = at + letter.len_utf8();
-                if end > 8 {
-                    break;
-                }
-                letter.encode_utf8(&mut name[at..end]);
-                at = end;
-            }
-            if rng.one_in(4) {
-                name[rng.below(8)] = rng.pick(&EDGES);
-            }
-        }
-    }
-    name
 }
 
 /// Old frames (16 bytes) or new ones (32 bytes).
@@ -272,8 +207,10 @@ pub fn large(kind: Kind, records: usize) -> Vec<u8> {
         let start = place as u32 * 0x1000 / 4;
         match kind.width {
             40 => {
+                let size = 0x100u32.to_le_bytes();
+                record[8..12].copy_from_slice(&size);
                 record[12..16].copy_from_slice(&start.to_le_bytes());
-                record[16..20].copy_from_slice(&0x100u32.to_le_bytes());
+                record[16..20].copy_from_slice(&size);
             }
             _ => {
                 record[..4].copy_from_slice(&start.to_le_bytes());

@@ -40,11 +40,11 @@ differential [--seed N] [--inputs N | --inputs GROUP=N | --gate | --full] [--onl
 type Group = (&'static str, u64, fn(&mut Tally, &mut Rng, u64));
 
 const GROUPS: &[Group] = &[
-    ("headers", 1_300_000, headers::run),
+    ("headers", 1_305_000, headers::run),
     ("omap", 4_300_000, omap::run),
     ("lists", 500_000, lists::run),
     ("clashes", 700_000, clashes::run),
-    ("addresses", 2_500_000, addresses::run),
+    ("addresses", 4_500_000, addresses::run),
     ("frames", 1_500_000, frames::run),
     ("formats", 5_000, formats::run),
     ("bundles", 400_000, bundles::run),

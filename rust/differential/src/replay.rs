@@ -4,7 +4,7 @@
 //!
 //!     u8 operation, u16 length of the rest, then the rest: u8 judge, input, answer
 //!
-//! The judge is 0 for pdb, 1 for document 01's rules, 2 for a count over every address. In what
+//! The judge is 0 for pdb, 1 for the documents' rules, 2 for a count over every address. In what
 //! follows T is a table: u8 mark (1 present, 0 absent), u16 length, that many bytes. `code` is a u8:
 //! 0 a value, 1 to 6 a refusal, 255 none; the value's bytes follow in any case, as zeros where there
 //! is none. A place has 32 bits. A frame has 30 bytes: u8 type; u32 code_start, code_size,
@@ -26,20 +26,21 @@
 //! | 10 | list | T, u32 a, u32 b, u16 records | as 7, with two places for each record |
 //! | 11 | clash | T, u32 a, u32 b | code, u32 first, u32 second |
 //! | 12 | way_back | T, u32 a, u32 b, u32 t | code, u32 sources, u32 first, u32 second |
-//! | 13 | section_offset | T, u32 address | code, u16 section, u32 offset |
+//! | 13 | section_offset | T, u8 by, u32 address | code, u16 section, u32 offset |
 //! | 14 | virtual_address | T, u16 section, u32 offset | code, u32 |
 //! | 15 | old frame | T, u32 place | code, frame |
 //! | 16 | new frame | T, u32 place | code, frame |
 //! | 17 | frame iteration | T old, T new, u32 old_index, u32 new_index | code, frame, u32 old_index, u32 new_index |
 //! | 18 | frames from an address | T old, T new, u32 address | code, u32 old_index, u32 new_index |
 //! | 19 | is_empty | T old, T new | code, u32 1 or 0 |
-//! | 20 to 31 | the conversions, in the face's order | T original_sections, T transformed_sections, T to_original, T to_transformed, u16 section, u32 rva or offset | code, u16 section, u32 rva or offset |
+//! | 20 to 31 | the conversions, in the face's order | T original_sections, T transformed_sections, T to_original, T to_transformed, u8 by, u16 section, u32 rva or offset | code, u16 section, u32 rva or offset |
 //! | 32 | quick_lookup | T, u32 address | code, u32, u32 probes, which none has too |
 //!
 //! In 7 and 10 `pieces` is told with code 5 too. In 8 and 9 a refusal hands a cursor back: zeros for
 //! 8, the unchanged one for 9; in 9 code 255 comes with the cursor left behind. In 17 the end and a
-//! refusal hand back the unchanged indexes. In 20 to 31 the section is 0 where an rva goes in or
-//! comes out.
+//! refusal hand back the unchanged indexes. In 13 and 20 to 31 `by` is the size with which an address
+//! is compared: 0 in memory, 1 of the raw data; 0 for a conversion that locates no address. In 20 to 31
+//! the section is 0 where an rva goes in or comes out.
 
 use std::io;
 
@@ -47,10 +48,11 @@ use crate::case::{Case, Put};
 use crate::operations::{Judge, Op};
 use crate::rng::Rng;
 
-/// Every case of an operation and a judge has the same chance to be kept.
+/// Every case of an operation and a judge has the same chance to be kept; telling ones are kept apart,
+/// since they are few.
 pub struct Sample {
     rng: Rng,
-    kept: Vec<[Kept; 3]>,
+    kept: Vec<[Kept; 4]>,
 }
 
 #[derive(Clone, Default)]
@@ -59,12 +61,17 @@ struct Kept {
     cases: Vec<Vec<u8>>,
 }
 
+/// Where telling cases are kept, behind the places of the judges.
+const TELLING: usize = 3;
+
 /// How many cases are kept, and the longest rest of one: pdb's answers matter most, and a conversion
 /// has four tables.
-fn quota(op: Op, judge: Judge) -> (usize, usize) {
+fn quota(op: Op, judge: Judge, telling: bool) -> (usize, usize) {
     match (op.number(), judge) {
-        (20..=31, Judge::Rust) => (80, 380),
-        (20..=31, _) => (20, 380),
+        (20..=31, _) if telling => (15, 380),
+        (_, _) if telling => (60, 200),
+        (20..=31, Judge::Rust) => (60, 380),
+        (20..=31, _) => (15, 380),
         (100.., _) => (0, 0),
         (_, Judge::Rules) => (40, 200),
         _ => (250, 200),
@@ -80,7 +87,6 @@ impl Sample {
     }
 
     pub fn offer<T: Put>(&mut self, op: Op, judge: Judge, answer: &T, input: impl Fn(&mut Case)) {
-        let (most, longest) = quota(op, judge);
         let mut case = Case::for_replay();
         case.bytes.push(judge as u8);
         input(&mut case);
@@ -88,10 +94,16 @@ impl Sample {
             return;
         }
         answer.put(&mut case.bytes);
+        let (most, longest) = quota(op, judge, case.telling);
         if case.bytes.len() > longest {
             return;
         }
-        let kept = &mut self.kept[op as usize][judge as usize];
+        let place = if case.telling {
+            TELLING
+        } else {
+            judge as usize
+        };
+        let kept = &mut self.kept[op as usize][place];
         kept.offered += 1;
         if kept.cases.len() < most {
             kept.cases.push(case.bytes);
@@ -111,8 +123,8 @@ impl Sample {
                 (case.len() as u16).put(&mut file);
                 file.extend_from_slice(case);
                 cases += 1;
+                rust += usize::from(case[0] == Judge::Rust as u8);
             }
-            rust += kept[Judge::Rust as usize].cases.len();
         }
         std::fs::write(path, file)?;
         Ok((cases, rust))

@@ -1,6 +1,10 @@
-//! Document 01's rules, stated once more in plain Rust: the judge where the Rust crate is none, that
+//! The documents' rules, stated once more in plain Rust: the judge where the Rust crate is none, that
 //! is, for every refusal and outside the domain of equality. Nothing here is taken from the wrapper
 //! or from pdb; sums are in 64 bits, searches walk.
+
+mod sections;
+
+pub use self::sections::{extents_fit, section_offset, sizes, virtual_address, By, Sizes};
 
 /// A value, none, or the number of a refusal.
 pub type Answer<T> = Result<Option<T>, u32>;
@@ -221,41 +225,6 @@ pub fn step(table: Option<&[u8]>, cursor: Cursor) -> Result<(Option<(u32, u32)>,
             return Ok((Some((shown(address)?, shown(piece_end)?)), now));
         }
     }
-}
-
-// ---- sections
-
-fn header_sizes(table: &[u8]) -> impl Iterator<Item = (u32, u32)> + '_ {
-    let pair = |r: &[u8]| (u32_at(r, 12), u32_at(r, 16));
-    table.chunks_exact(SECTIONS.width).map(pair)
-}
-
-/// Whether every header's address and raw size add up within 32 bits: the domain of equality.
-pub fn extents_fit(table: &[u8]) -> bool {
-    header_sizes(table).all(|(address, size)| address.checked_add(size).is_some())
-}
-
-pub fn section_offset(table: &[u8], address: u32) -> Answer<(u16, u32)> {
-    SECTIONS.count(table)?;
-    for (place, (start, size)) in header_sizes(table).enumerate() {
-        if address < start {
-            break;
-        }
-        if address - start < size {
-            return Ok(Some((place as u16 + 1, address - start)));
-        }
-    }
-    Ok(None)
-}
-
-pub fn virtual_address(table: &[u8], section: u16, offset: u32) -> Answer<u32> {
-    SECTIONS.count(table)?;
-    let header = match section {
-        0 => None,
-        _ => header_sizes(table).nth(usize::from(section) - 1),
-    };
-    let sum = |h: (u32, u32)| fits(u64::from(h.0) + u64::from(offset));
-    header.map(sum).transpose()
 }
 
 // ---- frames

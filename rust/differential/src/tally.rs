@@ -5,6 +5,7 @@ use std::fmt::Debug;
 use crate::case::{Case, Put};
 use crate::operations::{Judge, Op};
 use crate::replay::Sample;
+use crate::rules::Sizes;
 
 /// A difference from pdb that docs/DIFFERENCES.md lists, met where pdb was asked all the same.
 #[derive(Clone, Copy, Debug, Eq, PartialEq)]
@@ -15,11 +16,14 @@ pub enum Listed {
     Sum,
     OffPath,
     Extent,
+    ZeroFilled,
+    Padding,
+    Overlap,
     EmptyTable,
 }
 
 impl Listed {
-    const ALL: [(Listed, &'static str); 7] = [
+    const ALL: [(Listed, &'static str); 10] = [
         (
             Listed::WrongLength,
             "a wrong length: 1 here, an error on opening there",
@@ -39,6 +43,18 @@ impl Listed {
             "an extent past 32 bits: found here, not found there",
         ),
         (
+            Listed::ZeroFilled,
+            "zero-filled data: found here, not found there",
+        ),
+        (
+            Listed::Padding,
+            "the padding of raw data: not found here, found there",
+        ),
+        (
+            Listed::Overlap,
+            "extents that overlap: in another section here than there",
+        ),
+        (
             Listed::EmptyTable,
             "an empty table by pdb's own reader: no records here, an error there",
         ),
@@ -55,6 +71,8 @@ struct Row {
 pub struct Tally {
     rows: Vec<Row>,
     listed: [u64; Listed::ALL.len()],
+    /// The answers by memory size that pdb judged: no header, equal sizes, a virtual_size of 0.
+    by_memory_size: [u64; 3],
     shown: u64,
     judges_differ: u64,
     builds_compared: u64,
@@ -138,6 +156,11 @@ impl Tally {
         self.listed[difference as usize] += 1;
     }
 
+    /// An answer by memory size that pdb judges, since the sizes of the headers agree so.
+    pub fn by_memory_size(&mut self, sizes: Sizes) {
+        self.by_memory_size[sizes as usize] += 1;
+    }
+
     fn show(
         &mut self,
         what: &str,
@@ -192,6 +215,11 @@ impl Tally {
             println!("| {text} | {} |", self.listed[difference as usize]);
         }
         println!();
+        let [none, equal, zero] = self.by_memory_size;
+        println!(
+            "pdb on answers by memory size: {equal} where both sizes are equal in every header, \
+             {zero} more where some virtual_size is 0, {none} of no header"
+        );
         println!(
             "pdb unchanged and pdb with its fields laid open: {} compared, {} differ",
             self.builds_compared, self.builds_differ

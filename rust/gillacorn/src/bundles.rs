@@ -3,7 +3,7 @@
 #[cfg(feature = "alloc")]
 use alloc::vec::Vec;
 
-use crate::addresses::AddressMap;
+use crate::addresses::{AddressMap, ExtentBy};
 use crate::ffi;
 use crate::frames::FrameTable;
 #[cfg(feature = "alloc")]
@@ -103,7 +103,7 @@ impl<'t> Bundle<'t> {
         Ok(file)
     }
 
-    /// The address map over its sections and OMAP tables.
+    /// The address map over its sections and OMAP tables, with sections by their size in memory.
     #[inline]
     pub fn address_map(&self) -> AddressMap<'t> {
         AddressMap {
@@ -111,6 +111,7 @@ impl<'t> Bundle<'t> {
             transformed_sections: self.transformed_sections,
             to_original: self.to_original,
             to_transformed: self.to_transformed,
+            extent_by: ExtentBy::default(),
         }
     }
 

@@ -24,7 +24,7 @@ mod windows;
 #[cfg(feature = "alloc")]
 pub use crate::addresses::AddressMapBuf;
 pub use crate::addresses::{
-    AddressMap, PdbInternalRva, PdbInternalRvaRangeIter, PdbInternalSectionOffset, Rva,
+    AddressMap, ExtentBy, PdbInternalRva, PdbInternalRvaRangeIter, PdbInternalSectionOffset, Rva,
     RvaRangeIter, SectionOffset,
 };
 pub use crate::bundles::Bundle;

@@ -1,6 +1,6 @@
 //! `lookup`: single translations, of any addresses.
 
-use clap::{Arg, ArgAction, ArgMatches, Command};
+use clap::{ArgMatches, Command};
 use gillacorn::OMAPTable;
 
 use crate::answer::{Answer, Answered};
@@ -21,12 +21,7 @@ pub fn command() -> Command {
                 .num_args(1..)
                 .required(true),
         )
-        .arg(
-            Arg::new(QUICK)
-                .long(QUICK)
-                .action(ArgAction::SetTrue)
-                .help(quick),
-        )
+        .arg(arguments::flag(QUICK, quick))
 }
 
 pub fn run(matches: &ArgMatches) -> Answered {

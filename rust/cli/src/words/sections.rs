@@ -1,32 +1,22 @@
 //! `sections`: the section headers of a PE file, of a bare table or of a part of a bundle.
 
 use std::fmt::Write;
-use std::path::Path;
 
 use clap::{ArgMatches, Command};
 use gillacorn::{ImageSectionHeader, SectionCharacteristics, SectionTable};
 
-use crate::answer::{Answer, Answered, Stop};
-use crate::parts::Part;
-use crate::{arguments, json, pe_file, tables};
+use crate::answer::{Answer, Answered};
+use crate::{arguments, json, tables};
 
 pub fn command() -> Command {
-    let help = "A PE file, or a bare table of 40 bytes a header; - for standard input";
     Command::new("sections")
         .about("List section headers")
-        .arg(arguments::file("FILE", help).required(true))
-        .arg(tables::part(Part::SECTIONS))
+        .args(arguments::section_table())
 }
 
 pub fn run(matches: &ArgMatches) -> Answered {
-    let name = arguments::required(matches, "FILE");
-    let file = tables::read(name, matches)?;
-    let bad = |why| Stop::Bad(format!("{}: {why}", Path::new(name).display()));
-    let table = match tables::asked_part(matches) {
-        Some(_) => &file,
-        None => pe_file::section_table(&file).map_err(bad)?,
-    };
-    Ok(Box::new(Sections(SectionTable::new(table).headers()?)))
+    let table = tables::read_sections(matches)?;
+    Ok(Box::new(Sections(SectionTable::new(&table).headers()?)))
 }
 
 struct Sections(Vec<ImageSectionHeader>);

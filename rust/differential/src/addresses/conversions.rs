@@ -1,84 +1,17 @@
 //! The twelve conversions of an address map.
 
 use gillacorn::ffi::{self, Lent, Map};
-use gillacorn::{AddressMap, PdbInternalRva, PdbInternalSectionOffset, Rva, SectionOffset};
+use gillacorn::{
+    AddressMap, ExtentBy, PdbInternalRva, PdbInternalSectionOffset, Rva, SectionOffset,
+};
 use oracle::Tables;
 
+use super::judge_of_located;
+use super::paths::{locates, Along, Along::*, Conversion};
 use crate::operations::Op;
 use crate::ours::{both, given};
-use crate::rules::{self, Answer};
+use crate::rules::{self, Answer, By, Sizes};
 use crate::tally::{Listed, Tally};
-
-/// A step along a path, as document 01 has them.
-#[derive(Clone, Copy)]
-pub enum Along {
-    ToOriginal,
-    ToTransformed,
-    /// Address to section, in the original or the transformed sections.
-    Section(bool),
-    /// Section to address.
-    Address(bool),
-}
-use Along::*;
-
-/// Whether a section offset goes in, the operation, whether the input comes back where transformed
-/// sections are absent, and the path.
-pub type Conversion = (bool, Op, bool, &'static [Along]);
-
-pub const CONVERSIONS: [Conversion; 12] = [
-    (false, Op::RvaToInternalRva, false, &[ToOriginal]),
-    (false, Op::RvaToSectionOffset, false, &[Section(true)]),
-    (
-        false,
-        Op::RvaToInternalOffset,
-        false,
-        &[ToOriginal, Section(false)],
-    ),
-    (false, Op::InternalRvaToRva, false, &[ToTransformed]),
-    (
-        false,
-        Op::InternalRvaToSectionOffset,
-        false,
-        &[ToTransformed, Section(true)],
-    ),
-    (
-        false,
-        Op::InternalRvaToInternalOffset,
-        false,
-        &[Section(false)],
-    ),
-    (true, Op::OffsetToRva, false, &[Address(true)]),
-    (
-        true,
-        Op::OffsetToInternalRva,
-        false,
-        &[Address(true), ToOriginal],
-    ),
-    (
-        true,
-        Op::OffsetToInternalOffset,
-        true,
-        &[Address(true), ToOriginal, Section(false)],
-    ),
-    (
-        true,
-        Op::InternalOffsetToRva,
-        false,
-        &[Address(false), ToTransformed],
-    ),
-    (
-        true,
-        Op::InternalOffsetToInternalRva,
-        false,
-        &[Address(false)],
-    ),
-    (
-        true,
-        Op::InternalOffsetToSectionOffset,
-        true,
-        &[Address(false), ToTransformed, Section(true)],
-    ),
-];
 
 pub struct JudgedMap<'t> {
     pub lent: [Lent<'t>; 4],
@@ -101,20 +34,27 @@ impl<'t> JudgedMap<'t> {
         self.lent[number].present.then_some(self.lent[number].bytes)
     }
 
-    /// The path by the rules: it stops at a hole or a refusal, and reads no later table.
-    fn along(&self, path: &[Along], section: u16, number: u32) -> Answer<(u16, u32)> {
+    /// The transformed sections where they are there, else the original ones.
+    fn sections(&self, transformed: bool) -> &'t [u8] {
         let original = self.present(0).unwrap_or(&[]);
-        let sections = |transformed: bool| match (transformed, self.present(1)) {
-            (true, Some(table)) => table,
-            _ => original,
-        };
+        match transformed {
+            true => self.present(1).unwrap_or(original),
+            false => original,
+        }
+    }
+
+    /// The path by the rules: it stops at a hole or a refusal, and reads no later table.
+    fn along(&self, path: &[Along], by: By, section: u16, number: u32) -> Answer<(u16, u32)> {
         let mut at = (section, number);
         for &step in path {
             let next = match step {
                 ToOriginal => rules::lookup(self.present(2), at.1)?.map(|n| (0, n)),
                 ToTransformed => rules::lookup(self.present(3), at.1)?.map(|n| (0, n)),
-                Section(t) => rules::section_offset(sections(t), at.1)?,
-                Address(t) => rules::virtual_address(sections(t), at.0, at.1)?.map(|n| (0, n)),
+                Section(t) => rules::section_offset(by, self.sections(t), at.1)?,
+                Address(t) => {
+                    let rva = rules::virtual_address(self.sections(t), at.0, at.1)?;
+                    rva.map(|n| (0, n))
+                }
             };
             match next {
                 Some(next) => at = next,
@@ -124,24 +64,53 @@ impl<'t> JudgedMap<'t> {
         Ok(Some(at))
     }
 
+    /// Asks a conversion: by either size, if it locates an address.
     pub fn convert(&self, tally: &mut Tally, conversion: Conversion, section: u16, number: u32) {
-        let (from_offset, op, comes_back, path) = conversion;
+        let located = locates(conversion.3).is_some();
+        for by in By::BOTH {
+            if located || by == By::MemorySize {
+                self.convert_by(tally, conversion, by, section, number);
+            }
+        }
+    }
+
+    fn convert_by(
+        &self,
+        tally: &mut Tally,
+        (from_offset, op, comes_back, path): Conversion,
+        by: By,
+        section: u16,
+        number: u32,
+    ) {
         let section = if from_offset { section } else { 0 };
-        let rule = match comes_back && !self.lent[1].present {
+        let comes_back = comes_back && !self.lent[1].present;
+        let rule_by = |by| match comes_back {
             true => Ok(Some((section, number))),
-            false => self.along(path, section, number),
+            false => self.along(path, by, section, number),
         };
+        let rule = rule_by(by);
         let in_domain = rule.is_ok() && self.extents_fit;
-        let rust = match &self.rust {
-            Some(map) if in_domain => Some(Ok(theirs(op, section, number, map))),
+        let theirs = match &self.rust {
+            Some(map) if in_domain => Some(theirs(op, section, number, map)),
             None if rule.is_ok() => {
                 tally.listed(Listed::OffPath);
                 None
             }
             _ => None,
         };
-        let ours = self.ours(op, section, number);
-        tally.judge(op, rule, rust, ours, |case| {
+        let rust = match locates(path) {
+            Some(transformed) => {
+                // An input that comes back has no header read for it.
+                let sizes = match comes_back {
+                    true => Sizes::NoHeader,
+                    false => rules::sizes(self.sections(transformed)),
+                };
+                judge_of_located(tally, by, sizes, rule, theirs)
+            }
+            None => theirs.map(Ok),
+        };
+        let ours = self.ours(op, by, section, number);
+        tally.judge(op.by(by), rule, rust, ours, |case| {
             let names = [
                 "original_sections",
                 "transformed_sections",
@@ -151,24 +120,26 @@ impl<'t> JudgedMap<'t> {
             for (name, table) in names.iter().zip(self.lent) {
                 case.lent(name, table);
             }
+            let case = case.by(by, rule_by(by.other()) != rule);
             case.number("section", section).number("number", number);
         });
     }
 
-    fn ours(&self, op: Op, section: u16, number: u32) -> Answer<(u16, u32)> {
-        let raw = Map {
+    fn ours(&self, op: Op, by: By, section: u16, number: u32) -> Answer<(u16, u32)> {
+        let lent = Map {
             original_sections: self.lent[0],
             transformed_sections: self.lent[1],
             to_original: self.lent[2],
             to_transformed: self.lent[3],
         };
-        let map = self.wrapped();
+        let map = self.wrapped(by);
+        let by_raw_size = by == By::RawSize;
         macro_rules! asked {
             ($(($op:ident, $kind:ident $from:ident.$method:ident, $face:ident -> $to:ident);)*) => {
                 match op {
                     $(Op::$op => {
-                        let raw = asked!(@face $kind $face, section, number, &raw);
-                        let from = asked!(@from $kind $from, section, number);
+                        let raw = asked!(@face $kind $face -> $to);
+                        let from = asked!(@from $kind $from);
                         let wrapped = from.$method(&map);
                         let wrapped = wrapped.map(|given| given.map(|n| asked!(@pair $to n)));
                         both(asked!(@given $to raw), wrapped)
@@ -176,10 +147,15 @@ impl<'t> JudgedMap<'t> {
                     _ => unreachable!("no conversion"),
                 }
             };
-            (@face rva $face:ident, $s:expr, $n:expr, $map:expr) => { ffi::$face($n, $map) };
-            (@face offset $face:ident, $s:expr, $n:expr, $map:expr) => { ffi::$face($s, $n, $map) };
-            (@from rva $from:ident, $s:expr, $n:expr) => { $from($n) };
-            (@from offset $from:ident, $s:expr, $n:expr) => { $from::new($s, $n) };
+            // What gives a section has located it, by a size.
+            (@face rva $face:ident -> rva) => { ffi::$face(number, &lent) };
+            (@face rva $face:ident -> offset) => { ffi::$face(by_raw_size, number, &lent) };
+            (@face offset $face:ident -> rva) => { ffi::$face(section, number, &lent) };
+            (@face offset $face:ident -> offset) => {
+                ffi::$face(by_raw_size, section, number, &lent)
+            };
+            (@from rva $from:ident) => { $from(number) };
+            (@from offset $from:ident) => { $from::new(section, number) };
             (@pair rva $n:ident) => { (0, $n.0) };
             (@pair offset $n:ident) => { ($n.section, $n.offset) };
             (@given rva $raw:ident) => { given($raw.code, (0, $raw.value)) };
@@ -187,33 +163,42 @@ impl<'t> JudgedMap<'t> {
         }
         asked! {
             (RvaToInternalRva, rva Rva.to_internal_rva, rva_to_internal_rva -> rva);
-            (RvaToSectionOffset, rva Rva.to_section_offset, rva_to_section_offset -> offset);
-            (RvaToInternalOffset, rva Rva.to_internal_offset, rva_to_internal_offset -> offset);
+            (RvaToSectionOffset, rva Rva.to_section_offset, rva_to_section_offset_by -> offset);
+            (RvaToInternalOffset, rva Rva.to_internal_offset, rva_to_internal_offset_by -> offset);
             (InternalRvaToRva, rva PdbInternalRva.to_rva, internal_rva_to_rva -> rva);
             (InternalRvaToSectionOffset, rva PdbInternalRva.to_section_offset,
-                internal_rva_to_section_offset -> offset);
+                internal_rva_to_section_offset_by -> offset);
             (InternalRvaToInternalOffset, rva PdbInternalRva.to_internal_offset,
-                internal_rva_to_internal_offset -> offset);
+                internal_rva_to_internal_offset_by -> offset);
             (OffsetToRva, offset SectionOffset.to_rva, offset_to_rva -> rva);
             (OffsetToInternalRva, offset SectionOffset.to_internal_rva,
                 offset_to_internal_rva -> rva);
             (OffsetToInternalOffset, offset SectionOffset.to_internal_offset,
-                offset_to_internal_offset -> offset);
+                offset_to_internal_offset_by -> offset);
             (InternalOffsetToRva, offset PdbInternalSectionOffset.to_rva,
                 internal_offset_to_rva -> rva);
             (InternalOffsetToInternalRva, offset PdbInternalSectionOffset.to_internal_rva,
                 internal_offset_to_internal_rva -> rva);
             (InternalOffsetToSectionOffset, offset PdbInternalSectionOffset.to_section_offset,
-                internal_offset_to_section_offset -> offset);
+                internal_offset_to_section_offset_by -> offset);
         }
     }
 
-    pub fn wrapped(&self) -> AddressMap<'t> {
-        AddressMap {
+    pub fn wrapped(&self, by: By) -> AddressMap<'t> {
+        let map = AddressMap {
             original_sections: self.present(0),
             transformed_sections: self.present(1),
             to_original: self.present(2),
             to_transformed: self.present(3),
+            ..AddressMap::default()
+        };
+        match by {
+            // Whoever names no size gets this one.
+            By::MemorySize => map,
+            By::RawSize => AddressMap {
+                extent_by: ExtentBy::RawSize,
+                ..map
+            },
         }
     }
 }

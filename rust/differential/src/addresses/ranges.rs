@@ -6,6 +6,7 @@ use super::conversions::JudgedMap;
 use crate::judged::{JudgedTable, Output};
 use crate::operations::Op;
 use crate::ours::code_if;
+use crate::rules::By;
 use crate::tally::Tally;
 
 /// The two range conversions, whole and one by one.
@@ -18,7 +19,7 @@ pub fn ranges(
     places: usize,
 ) {
     let (rule, rust) = omap.judged(a, b, places / 2, places);
-    let map = asked.wrapped();
+    let map = asked.wrapped(By::MemorySize);
     let mut ours = Output::new(places);
     let (op, told) = if to_rva {
         let window = PdbInternalRva(a)..PdbInternalRva(b);

@@ -6,6 +6,7 @@ use core::ops::Range;
 #[cfg(feature = "alloc")]
 use alloc::vec::Vec;
 
+use super::extent::ExtentBy;
 use super::kinds::{PdbInternalRva, Rva};
 use crate::ffi;
 use crate::refusal::Result;
@@ -56,6 +57,31 @@ use crate::windows::{window, RangeIter};
 /// # Ok::<(), Refusal>(())
 /// ```
 ///
+/// # Zero-filled data
+///
+/// A conversion that ends in a section compares the address with the section's size in memory, so
+/// that one in the zeros behind its raw data is found. pdb 0.8 compares the size on disk, and has a
+/// hole there: who needs the answers that it gives says so in the map. [`ExtentBy`] has more of it.
+///
+/// ```
+/// use gillacorn::{AddressMap, ExtentBy, Refusal, Rva, SectionOffset};
+///
+/// // 300h bytes in memory, of which the file has 200h.
+/// let mut sections = [0; 40];
+/// sections[8..12].copy_from_slice(&0x300u32.to_le_bytes());
+/// sections[12..16].copy_from_slice(&0x1000u32.to_le_bytes());
+/// sections[16..20].copy_from_slice(&0x200u32.to_le_bytes());
+/// let map = AddressMap {
+///     original_sections: Some(&sections),
+///     ..AddressMap::default()
+/// };
+/// let as_pdb = AddressMap { extent_by: ExtentBy::RawSize, ..map };
+///
+/// assert_eq!(Rva(0x1250).to_section_offset(&map)?, Some(SectionOffset::new(1, 0x250)));
+/// assert_eq!(Rva(0x1250).to_section_offset(&as_pdb)?, None);
+/// # Ok::<(), Refusal>(())
+/// ```
+///
 /// [`SectionOffset`]: crate::SectionOffset
 /// [`PdbInternalSectionOffset`]: crate::PdbInternalSectionOffset
 #[derive(Clone, Copy, Debug, Default, Eq, Hash, PartialEq)]
@@ -68,6 +94,8 @@ pub struct AddressMap<'t> {
     pub to_original: Option<&'t [u8]>,
     /// The OMAP from the PDB's addresses to the executable's.
     pub to_transformed: Option<&'t [u8]>,
+    /// How far a section reaches, for the conversions that end in one.
+    pub extent_by: ExtentBy,
 }
 
 impl<'t> AddressMap<'t> {
@@ -164,6 +192,8 @@ pub struct AddressMapBuf {
     pub to_original: Option<Vec<u8>>,
     /// The OMAP from the PDB's addresses to the executable's.
     pub to_transformed: Option<Vec<u8>>,
+    /// How far a section reaches, for the conversions that end in one.
+    pub extent_by: ExtentBy,
 }
 
 #[cfg(feature = "alloc")]
@@ -176,6 +206,7 @@ impl AddressMapBuf {
             transformed_sections: self.transformed_sections.as_deref(),
             to_original: self.to_original.as_deref(),
             to_transformed: self.to_transformed.as_deref(),
+            extent_by: self.extent_by,
         }
     }
 }
@@ -189,6 +220,7 @@ impl From<AddressMap<'_>> for AddressMapBuf {
             transformed_sections: map.transformed_sections.map(Vec::from),
             to_original: map.to_original.map(Vec::from),
             to_transformed: map.to_transformed.map(Vec::from),
+            extent_by: map.extent_by,
         }
     }
 }

@@ -164,7 +164,6 @@ over_table! {
     record_at = gillacorn_record_at(place: usize) -> RecordAnswer;
     clash = gillacorn_clash(a: u32, b: u32) -> PairAnswer;
     way_back = gillacorn_way_back(a: u32, b: u32, t: u32) -> SourcesAnswer;
-    section_offset = gillacorn_section_offset(address: u32) -> OffsetAnswer;
     virtual_address = gillacorn_virtual_address(section: u16, offset: u32) -> ValueAnswer;
     old_frame = gillacorn_old_frame(place: usize) -> FrameAnswer;
     new_frame = gillacorn_new_frame(place: usize) -> FrameAnswer;
@@ -188,26 +187,36 @@ over! {
         = gillacorn_cursor_step(cursor, table.present, table.bytes.as_ptr(), table.bytes.len())
 }
 
+over! {
+    section_offset_by = gillacorn_section_offset_by (by_raw_size: bool, table: &[u8], address: u32)
+        (by_raw_size: bool, table: *const u8, length: usize, address: u32) -> OffsetAnswer
+        = gillacorn_section_offset_by(by_raw_size, table.as_ptr(), table.len(), address)
+}
+
 over_map! {
     rva_to_internal_rva = gillacorn_rva_to_internal_rva(rva: u32) -> ValueAnswer;
-    rva_to_section_offset = gillacorn_rva_to_section_offset(rva: u32) -> OffsetAnswer;
-    rva_to_internal_offset = gillacorn_rva_to_internal_offset(rva: u32) -> OffsetAnswer;
+    rva_to_section_offset_by =
+        gillacorn_rva_to_section_offset_by(by_raw_size: bool, rva: u32) -> OffsetAnswer;
+    rva_to_internal_offset_by =
+        gillacorn_rva_to_internal_offset_by(by_raw_size: bool, rva: u32) -> OffsetAnswer;
     internal_rva_to_rva = gillacorn_internal_rva_to_rva(rva: u32) -> ValueAnswer;
-    internal_rva_to_section_offset =
-        gillacorn_internal_rva_to_section_offset(rva: u32) -> OffsetAnswer;
-    internal_rva_to_internal_offset =
-        gillacorn_internal_rva_to_internal_offset(rva: u32) -> OffsetAnswer;
+    internal_rva_to_section_offset_by =
+        gillacorn_internal_rva_to_section_offset_by(by_raw_size: bool, rva: u32) -> OffsetAnswer;
+    internal_rva_to_internal_offset_by =
+        gillacorn_internal_rva_to_internal_offset_by(by_raw_size: bool, rva: u32) -> OffsetAnswer;
     offset_to_rva = gillacorn_offset_to_rva(section: u16, offset: u32) -> ValueAnswer;
     offset_to_internal_rva =
         gillacorn_offset_to_internal_rva(section: u16, offset: u32) -> ValueAnswer;
-    offset_to_internal_offset =
-        gillacorn_offset_to_internal_offset(section: u16, offset: u32) -> OffsetAnswer;
+    offset_to_internal_offset_by =
+        gillacorn_offset_to_internal_offset_by(by_raw_size: bool, section: u16, offset: u32)
+        -> OffsetAnswer;
     internal_offset_to_rva =
         gillacorn_internal_offset_to_rva(section: u16, offset: u32) -> ValueAnswer;
     internal_offset_to_internal_rva =
         gillacorn_internal_offset_to_internal_rva(section: u16, offset: u32) -> ValueAnswer;
-    internal_offset_to_section_offset =
-        gillacorn_internal_offset_to_section_offset(section: u16, offset: u32) -> OffsetAnswer;
+    internal_offset_to_section_offset_by =
+        gillacorn_internal_offset_to_section_offset_by(by_raw_size: bool, section: u16, offset: u32)
+        -> OffsetAnswer;
 }
 
 over_frames! {

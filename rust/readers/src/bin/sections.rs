@@ -3,6 +3,7 @@
 //!     sections FILE            sections --table FILE
 
 use gillacorn::{SectionCharacteristics, SectionTable};
+use readers::section_table;
 
 fn main() {
     let words: Vec<String> = std::env::args().skip(1).collect();
@@ -12,7 +13,11 @@ fn main() {
         _ => panic!("sections [--table] FILE"),
     };
     let file = std::fs::read(path).expect(path);
-    let table = if bare { &file[..] } else { in_pe(&file) };
+    let table = if bare {
+        &file[..]
+    } else {
+        section_table(&file)
+    };
     let table = SectionTable::new(table);
     for (place, header) in table.headers().expect(path).iter().enumerate() {
         let raw: Vec<String> = header.name.iter().map(|b| format!("{b:02X}")).collect();
@@ -34,19 +39,6 @@ fn main() {
             flags(header.characteristics).join(" "),
         );
     }
-}
-
-/// The section table of a PE file: behind the optional header, whose size the COFF header tells.
-fn in_pe(file: &[u8]) -> &[u8] {
-    let number = |at: usize, bytes: usize| {
-        let part = file[at..at + bytes].iter().rev();
-        part.fold(0, |n, &byte| n << 8 | usize::from(byte))
-    };
-    let signature = number(0x3c, 4);
-    assert_eq!(&file[signature..signature + 4], b"PE\0\0");
-    let count = number(signature + 6, 2);
-    let start = signature + 24 + number(signature + 20, 2);
-    &file[start..start + count * SectionTable::RECORD]
 }
 
 /// The flags under the PE format's names, in their order as words.
