@@ -66,7 +66,7 @@ while read -r file; do
     }
     END { exit wrong }' "$work/both" || { echo "real_zero_fill: $file differs" >&2; exit 1; }
     count=$((count + 1))
-    sed "s/^/$count /" "$work/both" >>"$work/all"
+    sed "s|^|$count:${file##*/} |" "$work/both" >>"$work/all"
 done < <(pe_files)
 
 # Of all answers, those of some kinds of sections: zeros have no raw data, a tail of zeros follows raw
@@ -80,6 +80,14 @@ addresses() { # kinds, and a condition on our answer, $7, and pdb's, $9
 if [ "$(sections 'zeros tail')" -lt 3 ] || [ "$(sections tail)" -lt 1 ]; then
     missing "three sections with zero-filled data, one of them with raw data too, in $packages"
 fi
+# pdb's answers beside ours, at the ends of zero-filled data.
+awk '$2 == "zeros" || $2 == "tail" {
+    if ($1 != file || $3 != section) printf "%s%s, section %d:", line, substr($1, index($1, ":") + 1), $3
+    else printf ","
+    printf " %s ours %s pdb %s", $4, $7, $9
+    file = $1; section = $3; line = "\n"
+}
+END { print "" }' "$work/all"
 echo "real_zero_fill: $count files, all as $(basename "$readobj") says where sections lie; by raw size as pdb has it"
 echo "    zero-filled data of $(sections 'zeros tail') sections, $(sections tail) of them with raw data too:" \
     "$(addresses 'zeros tail' 1) addresses, for $(addresses 'zeros tail' '$7 != "none" && $9 == "none"') of which pdb alone has none"
