@@ -1,5 +1,5 @@
 -- Where both sizes of every header agree the rules give one answer, for an address alone and along each path that ends
--- in a section: so there, as by raw size, the default answers as pdb does.
+-- in a section. So what is known there of the raw size, that it equals pdb, is known of the default.
 -- Assumes nothing.
 use mathlib.Core.Path.{_≡_, refl, ap}
 use Prim.Native.Nat.{ℕ, zero, suc, _+_, _-_, _/_, _≤_, _<_}

@@ -11,7 +11,7 @@ offsetAnswer (value x) = record { code = 0; section = x .section; offset = x .of
 offsetAnswer nothing = record { code = 255; section = 0; offset = 0 }
 offsetAnswer (refused n) = record { code = n; section = 0; offset = 0 }
 
--- the mark `by_raw_size`
+-- what a caller says by `by_raw_size`
 abbrev pub extentBy : Bool → ExtentBy
 extentBy true = RawSize
 extentBy false = MemorySize

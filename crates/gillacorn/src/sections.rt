@@ -45,7 +45,8 @@ fn no_offset(code: u32) -> OffsetAnswer
     }
 }
 
-// Which size is the extent, as the face is told it. A mark has no third value that would need an answer.
+// Which size is the extent, as the face is told it. A bool has no third value that would need an
+// answer.
 pub fn extent_by(by_raw_size: bool) -> ExtentBy
     ensures { λ r. ⌜ r ≡ extentBy «by_raw_size» ⌝ }
 {

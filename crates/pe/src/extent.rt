@@ -14,8 +14,8 @@ pub enum ExtentBy {
     RawSize,
 }
 
-// Where in a header the size stands that a rule takes, unless that is 0. A walk over headers then has no branch on the
-// rule, and stays short enough to become a part of its callers.
+// Where in a header the size stands that a rule takes, unless that is 0. A walk over headers then has
+// no branch on the rule, and stays short enough to become a part of its callers.
 fn size_in_header(by: ExtentBy) -> usize
     ensures { λ r. ⌜ r ≡ layout (sizeField by) .offset ⌝ }
 {

@@ -1,4 +1,4 @@
--- `gillacorn::sections::extent_by` meets its contract: by the mark.
+-- `gillacorn::sections::extent_by` meets its contract: either way.
 -- Assumes nothing.
 use Rattle.gillacorn.proofs.sections.extent_by.Statement.{statement}
 use Rattle.gillacorn.proofs.sections.extent_by.Tie as tie
