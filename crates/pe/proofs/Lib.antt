@@ -2,9 +2,6 @@ pub mod Part
 pub mod Extents
 pub mod Given
 pub mod Align
-pub mod Leads
-pub mod Reading
 pub mod Names
 pub mod Determined
 pub mod Tables
-pub mod Grammar

@@ -16,8 +16,9 @@ use Rattle.lent.specs.Paper.{value, nothing, unless}
 use Rattle.lent.specs.Table.{sectionShape}
 use Rattle.lent.proofs.Logic.{which}
 use Rattle.pe.specs.Header.{headerAt, headerSpec, toldGiven}
-use Rattle.pe.specs.Name.{beforeZero, ifUtf8, nameOf, nameSpec}
-use Rattle.pe.specs.Utf8.{utf8}
+use Rattle.utf8.specs.Text.{beforeZero, ifUtf8}
+use Rattle.utf8.specs.Utf8.{utf8}
+use Rattle.pe.specs.Name.{nameOf, nameSpec}
 use Rattle.pe.specs.declared.header.ImageSectionHeader.{ImageSectionHeader}
 use Rattle.pe.specs.declared.header.Given.{Given}
 use Rattle.pe.proofs.Given.{placed}

@@ -1,21 +1,10 @@
 -- The name of a section, by `name` of src/pe.rs; a table that is refused or too short holds no name.
 use Prim.Native.Nat.{ℕ, zero, suc}
-use mathlib.Core.Bool.{cond}
-use mathlib.Core.List.{List, [], _∷_}
-use lib.Dec.{eqb}
+use mathlib.Core.List.{List, []}
 use Rattle.lent.specs.Paper.{Told, value, nothing, refused}
+use Rattle.utf8.specs.Text.{beforeZero, ifUtf8}
 use Rattle.pe.specs.declared.header.ImageSectionHeader.{ImageSectionHeader}
 use Rattle.pe.specs.Header.{headerSpec}
-use Rattle.pe.specs.Utf8.{utf8}
-
--- the part before the first zero
-unfoldable pub beforeZero : List ℕ → List ℕ
-beforeZero [] = []
-beforeZero (b ∷ l) = cond (eqb b 0) [] (b ∷ beforeZero l)
-
--- a text where it is UTF-8, else the empty part
-unfoldable pub ifUtf8 : List ℕ → List ℕ
-ifUtf8 l = cond (utf8 l) l []
 
 -- the name that a header holds, and the empty part where there is no header
 abbrev pub nameOf : Told ImageSectionHeader → List ℕ

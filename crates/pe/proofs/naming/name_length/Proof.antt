@@ -1,7 +1,7 @@
 -- `pe::name_length` meets its contract: the name that the header holds, or none, by whether the table has the header.
 -- Assumes nothing.
-use mathlib.Core.Path.{ap, _∙_}
-use Prim.Native.Nat.{_-_}
+use mathlib.Core.Path.{_≡_, ap, _∙_}
+use Prim.Native.Nat.{_+_, _-_, _*_}
 use native.Mathlib.Omega.{arith}
 use lib.ListN.{length}
 use denote.Ref.{now}
@@ -26,14 +26,26 @@ given-at-requires c κs = search needs
 enum-told : tie.Need-enum-told
 enum-told c = search needs
 
-mul-held-length : tie.Need-mul-held-length
-mul-held-length c = search needs
+mul-from : tie.Need-mul-from
+mul-from c = search needs
 
-held-length-requires : tie.Need-held-length-requires
-held-length-requires c κs =
+add-to : tie.Need-add-to
+add-to c = search needs
+
+sub-text-length : tie.Need-sub-text-length
+sub-text-length c = search needs
+
+part-text-length-start : tie.Need-part-text-length-start
+part-text-length-start c = search needs
+
+part-text-length-end : tie.Need-part-text-length-end
+part-text-length-end c =
     let flag = c .before .before in
     let a = flag .before .before .before .args in
     omega (arith, flagged (now (a .table)) (a .number - 1) _ (c .enum-told .given .1) (flag .given-at .ensures))
+
+text-length-requires : tie.Need-text-length-requires
+text-length-requires c κs = search needs
 
 enum-told-2 : tie.Need-enum-told-2
 enum-told-2 c = search needs
@@ -43,12 +55,13 @@ enum-told-3 c = search needs
 
 returns-2 : tie.Need-returns-2
 returns-2 c =
-    let flag = c .before .before .before in
+    let flag = c .before .before .before .before in
     let a = flag .before .before .before .args in
     let s = now (a .table) in
     let i = a .number - 1 in
-    let there = name-given s (a .number) given.Header _ (omega arith) (c .before .enum-told .given .1) in
-    c .held-length .ensures ∙ ap length (name-held s i ∙ there (flag .given-at .ensures))
+    let eight : 40 * i + 8 - 40 * i ≡ 8 = omega arith in
+    let there = name-given s (a .number) given.Header _ (omega arith) (c .before .before .enum-told .given .1) in
+    (rw eight at (c .text-length .ensures)) ∙ ap length (name-held s i ∙ there (flag .given-at .ensures))
 
 returns-3 : tie.Need-returns-3
 returns-3 c =
@@ -73,8 +86,12 @@ name-length-spec =
     sub-place
     given-at-requires
     enum-told
-    mul-held-length
-    held-length-requires
+    mul-from
+    add-to
+    sub-text-length
+    part-text-length-start
+    part-text-length-end
+    text-length-requires
     enum-told-2
     enum-told-3
     returns-2

@@ -4,7 +4,7 @@ use mathlib.Core.Logic.{_⊎_}
 use Prim.Native.Nat.{ℕ}
 use mathlib.Core.Bool.{true}
 use mathlib.Core.List.{List, [], _∷_, _++_}
-use Rattle.pe.specs.Utf8.{Range, holds, UTF8-char}
+use Rattle.utf8.specs.Utf8.{Range, holds, UTF8-char}
 
 -- one of the alternatives
 abbrev pub Among : List Range → List (List Range) → Type 0

@@ -12,8 +12,8 @@ use mathlib.Core.Option.{Option, none, some}
 use lib.Dec.{eqb}
 use borrow.Author.Tests.{eqb-true}
 use Rattle.lent.proofs.Logic.{and-left, and-right}
-use Rattle.pe.specs.Utf8.{Range, afterLead, UTF8-char, UTF8-tail}
-use Rattle.pe.specs.Due.{tails}
+use Rattle.utf8.specs.Utf8.{Range, afterLead, UTF8-char, UTF8-tail}
+use Rattle.utf8.specs.Due.{tails}
 
 -- a test passes at n numbers from i on
 abbrev pub passes : (ℕ → Bool) → ℕ → ℕ → Bool

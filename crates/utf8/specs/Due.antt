@@ -2,9 +2,9 @@
 use Prim.Native.Nat.{ℕ, zero, suc}
 use mathlib.Core.List.{List, [], _∷_}
 use mathlib.Core.Option.{Option, none, some}
-use Rattle.pe.specs.Utf8.{Range, _to_, UTF8-tail}
-use Rattle.pe.specs.declared.naming.Due.{Due}
-use Rattle.pe.specs.declared.naming.Due.the-variants as due
+use Rattle.utf8.specs.Utf8.{Range, _to_, UTF8-tail}
+use Rattle.utf8.specs.declared.text.Due.{Due}
+use Rattle.utf8.specs.declared.text.Due.the-variants as due
 
 -- n bytes of the tail
 abbrev pub tails : ℕ → List Range

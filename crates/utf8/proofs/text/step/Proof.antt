@@ -1,11 +1,11 @@
--- `pe::step` meets its contract, case by case of what was due.
+-- `utf8::step` meets its contract, case by case of what was due.
 -- Assumes nothing.
 use mathlib.Core.Path.{sym, _∙_}
 use native.Mathlib.Omega.{arith}
-use Rattle.pe.proofs.Leads.{tails-more}
+use Rattle.utf8.proofs.Leads.{tails-more}
 use borrow.Author.Needs.{needs}
-use Rattle.pe.proofs.naming.step.Statement.{statement}
-use Rattle.pe.proofs.naming.step.Tie as tie
+use Rattle.utf8.proofs.text.step.Statement.{statement}
+use Rattle.utf8.proofs.text.step.Tie as tie
 
 enum-told : tie.Need-enum-told
 enum-told c = search needs

@@ -11,9 +11,9 @@ use mathlib.Core.Option.{Option, none, some}
 use lib.Dec.{leb}
 use borrow.Author.Tests.{leb-true}
 use Rattle.lent.proofs.Logic.{which, and-left, and-right}
-use Rattle.pe.specs.Utf8.{Range, _to_, holds, afterLead, next, completes, utf8, UTF8-char}
-use Rattle.pe.specs.Grammar.{Among, Fit, done, byte, Text, end, char}
-use Rattle.pe.proofs.Leads.{same, passes, led}
+use Rattle.utf8.specs.Utf8.{Range, _to_, holds, afterLead, next, completes, utf8, UTF8-char}
+use Rattle.utf8.specs.Grammar.{Among, Fit, done, byte, Text, end, char}
+use Rattle.utf8.proofs.Leads.{same, passes, led}
 
 contrary : {A : Type 0} → false ≡ true → A
 contrary z = let y : _≡_ {A = ℕ} 0 1 = cc in absurd (omega arith)

@@ -1,11 +1,11 @@
--- `pe::lead` meets its contract: what is due is that of every byte of the arm.
+-- `utf8::lead` meets its contract: what is due is that of every byte of the arm.
 -- Assumes nothing.
 use mathlib.Core.Path.{refl}
 use native.Mathlib.Omega.{arith}
-use Rattle.pe.specs.Utf8.{afterLead}
-use Rattle.pe.proofs.Leads.{led}
-use Rattle.pe.proofs.naming.lead.Statement.{statement}
-use Rattle.pe.proofs.naming.lead.Tie as tie
+use Rattle.utf8.specs.Utf8.{afterLead}
+use Rattle.utf8.proofs.Leads.{led}
+use Rattle.utf8.proofs.text.lead.Statement.{statement}
+use Rattle.utf8.proofs.text.lead.Tie as tie
 
 returns : tie.Need-returns
 unfolding afterLead

@@ -1,37 +1,32 @@
--- `pe::held_length` meets its contract: what is due and what is left of the name tell as much as the whole of it.
+-- `utf8::text_length` meets its contract: what is due and what is left of the text tell as much as the whole of it.
 -- Assumes nothing.
 use mathlib.Core.Path.{_≡_, sym, _∙_}
 use mathlib.Core.List.{[]}
 use mathlib.Core.Option.{some}
-use Prim.Native.Nat.{_+_, _-_}
+use Prim.Native.Nat.{_-_}
 use native.Mathlib.Omega.{arith}
+use lib.ListN.{length}
 use denote.Ref.{now}
-use Rattle.pe.specs.Due.{toldDue}
-use Rattle.pe.proofs.Reading.{Reading, reading-first, reading-ascii, reading-more, reading-zero, reading-end}
-use Rattle.pe.proofs.Reading.{eight-left}
+use Rattle.utf8.specs.Due.{toldDue}
+use Rattle.utf8.proofs.Reading.{Reading, reading-first, reading-ascii, reading-more, reading-zero, reading-end}
 use borrow.Author.Needs.{needs}
-use Rattle.pe.proofs.naming.held_length.Statement.{statement}
-use Rattle.pe.proofs.naming.held_length.Tie as tie
+use Rattle.utf8.proofs.text.text_length.Statement.{statement}
+use Rattle.utf8.proofs.text.text_length.Tie as tie
 
 abbrev Inv-loop : tie.InvT-loop
-Inv-loop table at end i₀ i = Reading table end at (some []) i
+Inv-loop s end i₀ i = Reading s (some []) i
 
 abbrev μ-loop : tie.MeasureT-loop
-μ-loop table at end i₀ i = end - i
+μ-loop s end i₀ i = end - i
 
 abbrev Inv-loop2 : tie.InvT-loop2
-Inv-loop2 table at end i₀ due₀ i due = Reading table end at (toldDue due) i
+Inv-loop2 s end i₀ due₀ i due = Reading s (toldDue due) i
 
 abbrev μ-loop2 : tie.MeasureT-loop2
-μ-loop2 table at end i₀ due₀ i due = end - i
-
-add-end : tie.Need-add-end Inv-loop μ-loop Inv-loop2 μ-loop2
-add-end c = omega arith
+μ-loop2 s end i₀ due₀ i due = end - i
 
 loop-holds : tie.Need-loop-holds Inv-loop μ-loop Inv-loop2 μ-loop2
-loop-holds c =
-    let a = c .before .args in
-    reading-first (now (a .table)) (a .at + 8) (a .at) (omega arith)
+loop-holds c = reading-first (now (c .before .args .s))
 
 shared-slice-read-within : tie.Need-shared-slice-read-within Inv-loop μ-loop Inv-loop2 μ-loop2
 shared-slice-read-within c = omega arith
@@ -48,8 +43,7 @@ loop-less c = omega arith
 loop-again : tie.Need-loop-again Inv-loop μ-loop Inv-loop2 μ-loop2
 loop-again c =
     let l = c .before .before .before .before in
-    let a = l .before .before .args in
-    reading-ascii (now (a .table)) (a .at + 8) (a .at) (l .loop .i) (l .loop .inv) (omega arith)
+    reading-ascii (now (l .before .before .args .s)) (l .loop .i) (l .loop .inv) (omega arith)
     (sym (c .before .within .ensures) ∙ c .if1 .taken)
 
 loop2-holds : tie.Need-loop2-holds Inv-loop μ-loop Inv-loop2 μ-loop2
@@ -58,21 +52,15 @@ loop2-holds c = c .before .loop .inv
 shared-slice-read-b : tie.Need-shared-slice-read-b Inv-loop μ-loop Inv-loop2 μ-loop2
 shared-slice-read-b c = omega arith
 
-sub-settled : tie.Need-sub-settled Inv-loop μ-loop Inv-loop2 μ-loop2
-sub-settled c = omega arith
-
 settled-requires : tie.Need-settled-requires Inv-loop μ-loop Inv-loop2 μ-loop2
 settled-requires c κs = search needs
 
 returns : tie.Need-returns Inv-loop μ-loop Inv-loop2 μ-loop2
 returns c =
     let l = c .before .before .before .before in
-    let a = l .before .before .before .before .args in
-    let s = now (a .table) in
-    let due = toldDue (l .loop2 .due) in
-    rw (eight-left s (a .at) (omega arith))
-    (c .settled .ensures
-    ∙ reading-zero s (a .at + 8) (a .at) due (l .loop2 .i) (l .loop2 .inv) (omega arith) (c .before .if2 .taken))
+    let s = now (l .before .before .before .before .args .s) in
+    c .settled .ensures
+    ∙ reading-zero s (toldDue (l .loop2 .due)) (l .loop2 .i) (l .loop2 .inv) (omega arith) (c .before .if2 .taken)
 
 step-requires : tie.Need-step-requires Inv-loop μ-loop Inv-loop2 μ-loop2
 step-requires c κs = search needs
@@ -86,11 +74,9 @@ loop2-less c = omega arith
 loop2-again : tie.Need-loop2-again Inv-loop μ-loop Inv-loop2 μ-loop2
 loop2-again c =
     let l = c .before .before .before .before in
-    let a = l .before .before .before .before .args in
-    let s = now (a .table) in
-    let due = toldDue (l .loop2 .due) in
+    let s = now (l .before .before .before .before .args .s) in
     rw (c .step .ensures)
-    (reading-more s (a .at + 8) (a .at) due (l .loop2 .i) (l .loop2 .inv) (omega arith) (c .before .if2 .left))
+    (reading-more s (toldDue (l .loop2 .due)) (l .loop2 .i) (l .loop2 .inv) (omega arith) (c .before .if2 .left))
 
 settled-requires-2 : tie.Need-settled-requires-2 Inv-loop μ-loop Inv-loop2 μ-loop2
 settled-requires-2 c κs = search needs
@@ -98,22 +84,19 @@ settled-requires-2 c κs = search needs
 returns-2 : tie.Need-returns-2 Inv-loop μ-loop Inv-loop2 μ-loop2
 returns-2 c =
     let l = c .before .before in
-    let a = l .before .before .before .before .args in
-    let s = now (a .table) in
-    let e : 8 ≡ l .loop2 .i - a .at = omega arith in
-    let due = toldDue (l .loop2 .due) in
-    let last = reading-end s (a .at + 8) (a .at) due (l .loop2 .i) (l .loop2 .inv) (omega arith) in
-    rw (eight-left s (a .at) (omega arith), ← last, ← e) (c .settled2 .ensures)
+    let s = now (l .before .before .before .before .args .s) in
+    let e : length s ≡ l .loop2 .i = omega (arith, l .loop2 .inv .until) in
+    rw (← (reading-end s (toldDue (l .loop2 .due)) (l .loop2 .i) (l .loop2 .inv) (omega arith)), ← e)
+    (c .settled2 .ensures)
 
-pub held-length-spec : {M : Type 1} → statement M
-held-length-spec =
+pub text-length-spec : {M : Type 1} → statement M
+text-length-spec =
     tie.close
     (tie.spec
     Inv-loop
     μ-loop
     Inv-loop2
     μ-loop2
-    add-end
     loop-holds
     shared-slice-read-within
     within-requires
@@ -122,7 +105,6 @@ held-length-spec =
     loop-again
     loop2-holds
     shared-slice-read-b
-    sub-settled
     settled-requires
     returns
     step-requires

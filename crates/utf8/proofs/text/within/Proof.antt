@@ -1,8 +1,8 @@
--- `pe::within` meets its contract.
+-- `utf8::within` meets its contract.
 -- Assumes nothing.
 use borrow.Author.Tests.{le-leb, lt-leb}
-use Rattle.pe.proofs.naming.within.Statement.{statement}
-use Rattle.pe.proofs.naming.within.Tie as tie
+use Rattle.utf8.proofs.text.within.Statement.{statement}
+use Rattle.utf8.proofs.text.within.Tie as tie
 
 returns : tie.Need-returns
 returns c = rw (le-leb (c .before .args .low) (c .before .args .b) (c .if1 .taken))

@@ -1,0 +1,4 @@
+pub mod Leads
+pub mod Reading
+pub mod Grammar
+pub mod Texts
