@@ -1,8 +1,8 @@
 #!/usr/bin/env bash
 # The command line `gillacorn` as a person runs it: each word, each refusal, bad words, and files,
-# pipes and outputs that fail. Bundles and `locate` have files of their own, cli_bundle.sh and
-# cli_locate.sh. Refusals 5 and 6 can't come: the output always has room, and every walk begins at a
-# window.
+# pipes and outputs that fail. `sections`, `bundle` and `locate` have files of their own,
+# cli_sections.sh, cli_bundle.sh and cli_locate.sh. Refusals 5 and 6 can't come: the output always has
+# room, and every walk begins at a window.
 # Exits with 77, after one line, where something can't be had.
 set -euo pipefail
 . "$(dirname "$0")/../rust/lib.sh"
@@ -143,53 +143,6 @@ is 1 '000050A0 clash 000010A0 00001320' \
     'clash: 000010A0 and 00001320 both translate to 000050A0' back T 800 1400 50A0
 is 0 '000050A0 000010A0' '' back T 800 1300 50A0
 
-# ---- sections: a bare table, and the same table in a PE file
-
-section() { # name, address, size, raw size, place in the file, flags
-    printf '%s' "$1"
-    head -c $((8 - ${#1})) /dev/zero
-    bytes "$3" "$2" "$4" "$5" 0 0 0 "$6"
-}
-{
-    section .text 0x1000 0xABC 0xC00 0x400 0x60500020
-    section $'\e[2J"' 0x2000 0x10 0x200 0x1000 0xC0000040
-    section '' 0x3000 0 0 0 0
-} >table
-listed='no.   address  size     raw size raw at   flags    name
-1     00001000 00000ABC 00000C00 00000400 60500020 .text
-2     00002000 00000010 00000200 00001000 C0000040 \u{1b}[2J\"
-3     00003000 00000000 00000000 00000000 00000000
-sections 3'
-pe() { # where the header is said to be, how many sections
-    printf 'MZ'
-    head -c 58 /dev/zero
-    bytes "$1"
-    printf 'PE\0\0\x64\x86'
-    printf '%b' "\\x0$2\\0"
-    bytes 0 0 0
-    printf '\x08\0\0\0'
-    bytes 0 0
-    cat table
-}
-pe 0x40 3 >image
-is 0 "$listed" '' sections table
-is 0 "$listed" '' sections image
-from=image is 0 "$listed" '' sections -
-is 0 "$(head -n 1 <<<"$listed")"$'\nsections 0' '' sections empty
-pe 0x40 4 >longer
-pe 0x41 3 >moved
-pe 0xFFFFFFFF 3 >outside
-printf 'MZ' >begun
-short='it begins as a PE file, and ends before its section table'
-is 2 '' "gillacorn: longer: $short" sections longer
-is 2 '' "gillacorn: outside: $short" sections outside
-is 2 '' "gillacorn: begun: $short" sections begun
-is 2 '' 'gillacorn: moved: it begins as a PE file, and has none at 41' sections moved
-head -c 39 table >half
-head -c $((40 * 65536)) /dev/zero >more_sections
-is 1 '' "refused 1: $long" sections half
-is 1 '' "refused 2: $many" sections more_sections
-
 # ---- frames: those of the program's example, which has the old table's length before it
 
 example=$repository/crates/frames/stdin
@@ -234,13 +187,8 @@ is 0 '{"frames":[{"type":"fdata","code_start":512,"code_size":16,"locals_size":0
 '"prolog_size":0,"saved_regs_size":0,"has_structured_eh":true,"has_cpp_eh":true,'\
 '"is_function_start":true,"uses_base_pointer":false,"max_stack_size":64,"program":18}]}' '' \
     frames --json --new one
-section $'\e"\\' 0x1000 0xABC 0xC00 0x400 0x60500020 >one
-is 0 '{"sections":[{"number":1,"name":"\u001b\"\\","virtual_size":2748,"virtual_address":4096,'\
-'"size_of_raw_data":3072,"pointer_to_raw_data":1024,"pointer_to_relocations":0,'\
-'"pointer_to_line_numbers":0,"number_of_relocations":0,"number_of_line_numbers":0,'\
-'"characteristics":1615855648,"flags":["executable","execute","read"],"alignment":16}]}' '' \
-    sections --json one
 
+. "$repository/tests/cli_sections.sh"
 . "$repository/tests/cli_bundle.sh"
 . "$repository/tests/cli_locate.sh"
 

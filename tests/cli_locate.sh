@@ -31,7 +31,7 @@ is 0 '00003000 3     00000000 .bss
 is 0 '00004000 4     00000000
 0000407F 4     0000007F
 00004080 hole' '' locate zeros 4000 407F 4080
-is 0 '00005000 5     00000000
+is 0 '00005000 5     00000000 FF6E616D65000000
 00005001 hole
 00006000 6     00000000 \u{1b}[2J\"' '' locate zeros 5000 5001 6000
 is 0 'FFFFEFFF hole
@@ -84,11 +84,12 @@ is 1 '' "refused 1: $long" locate build 2200
 
 # ---- JSON
 
-is 0 '{"addresses":[{"address":8704,"section":2,"offset":512,"name":".data"},'\
-'{"address":8960,"section":null,"offset":null,"name":null},'\
-'{"address":20480,"section":5,"offset":0,"name":""},'\
-'{"address":24576,"section":6,"offset":0,"name":"\u001b[2J\""}]}' '' locate --json zeros 2200 2300 5000 6000
-is 0 '{"addresses":[{"address":8704,"section":null,"offset":null,"name":null}]}' '' \
+is 0 '{"addresses":[{"address":8704,"section":2,"offset":512,"name":".data","name_bytes":"2E64617461000000"},'\
+'{"address":8960,"section":null,"offset":null,"name":null,"name_bytes":null},'\
+'{"address":20480,"section":5,"offset":0,"name":null,"name_bytes":"FF6E616D65000000"},'\
+'{"address":24576,"section":6,"offset":0,"name":"\u001b[2J\"","name_bytes":"1B5B324A22000000"}]}' '' \
+    locate --json zeros 2200 2300 5000 6000
+is 0 '{"addresses":[{"address":8704,"section":null,"offset":null,"name":null,"name_bytes":null}]}' '' \
     locate zeros 2200 --raw-size --json
 is 1 "{\"refused\":1,\"sentence\":\"$long\"}" "refused 1: $long" locate --json half 2200
 

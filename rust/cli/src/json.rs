@@ -30,12 +30,18 @@ pub fn text(text: &str) -> String {
     for letter in text.chars() {
         let _ = match letter {
             '"' | '\\' => write!(quoted, "\\{letter}"),
-            '\0'..='\u{1f}' | '\u{7f}' => write!(quoted, "\\u{:04x}", u32::from(letter)),
+            // Also those that JSON allows: a terminal would obey them.
+            _ if letter.is_control() => write!(quoted, "\\u{:04x}", u32::from(letter)),
             _ => write!(quoted, "{letter}"),
         };
     }
     quoted.push('"');
     quoted
+}
+
+/// A text, or null.
+pub fn text_or_null(given: Option<&str>) -> String {
+    given.map_or_else(|| "null".into(), text)
 }
 
 /// A refusal as members of an object.

@@ -13,6 +13,7 @@ mod parts;
 mod pe_file;
 mod progress;
 mod save;
+mod section_name;
 #[allow(unsafe_code)]
 mod streams;
 mod tables;

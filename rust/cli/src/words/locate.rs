@@ -3,10 +3,10 @@
 use std::fmt::Write;
 
 use clap::{ArgMatches, Command};
-use gillacorn::{ExtentBy, Refusal, SectionTable};
+use gillacorn::{ExtentBy, ImageSectionHeader, Refusal, SectionTable};
 
 use crate::answer::{Answer, Answered};
-use crate::{arguments, input, json, progress, tables};
+use crate::{arguments, input, json, progress, section_name, tables};
 
 const RAW_SIZE: &str = "raw-size";
 
@@ -44,7 +44,7 @@ pub fn run(matches: &ArgMatches) -> Answered {
 struct Place {
     number: u16,
     offset: u32,
-    name: String,
+    header: ImageSectionHeader,
 }
 
 /// Each address, and where it is; none is a hole.
@@ -55,13 +55,17 @@ impl Places {
         let places = progress::during("addresses", Some(addresses.len()), |done| {
             let locate = |address| {
                 done.one_more();
-                let found = table.section_offset_by(by, address)?;
-                let place = found.map(|found| Place {
+                let found = match table.section_offset_by(by, address)? {
+                    Some(found) => found,
+                    None => return Ok((address, None)),
+                };
+                let header = table.header(usize::from(found.section) - 1)?;
+                let place = Place {
                     number: found.section,
                     offset: found.offset,
-                    name: table.name(found.section).into(),
-                });
-                Ok((address, place))
+                    header: header.expect("an address was found in it"),
+                };
+                Ok((address, Some(place)))
             };
             addresses
                 .into_iter()
@@ -80,9 +84,9 @@ impl Answer for Places {
                 Some(Place {
                     number,
                     offset,
-                    name,
+                    header,
                 }) => {
-                    let name = name.escape_debug();
+                    let name = section_name::shown(header);
                     format!("{address:08X} {number:<5} {offset:08X} {name}")
                 }
                 None => format!("{address:08X} hole"),
@@ -97,9 +101,9 @@ impl Answer for Places {
             let place = place.as_ref();
             let number = json::number(place.map(|place| place.number.into()));
             let offset = json::number(place.map(|place| place.offset));
-            let name = place.map_or_else(|| "null".into(), |place| json::text(&place.name));
+            let name = section_name::members(place.map(|place| &place.header));
             let _ = write!(text, "{{\"address\":{address},\"section\":{number}");
-            let _ = write!(text, ",\"offset\":{offset},\"name\":{name}}}");
+            let _ = write!(text, ",\"offset\":{offset},{name}}}");
         });
         format!("{{\"addresses\":{list}}}\n")
     }

@@ -1,16 +1,19 @@
-//! `sections`: the section headers of a PE file, of a bare table or of a part of a bundle.
+//! `sections`: the section report of a PE file, of a bare table or of a part of a bundle.
+
+mod flags;
 
 use std::fmt::Write;
 
 use clap::{ArgMatches, Command};
-use gillacorn::{ImageSectionHeader, SectionCharacteristics, SectionTable};
+use gillacorn::{ImageSectionHeader, SectionTable};
 
 use crate::answer::{Answer, Answered};
-use crate::{arguments, json, tables};
+use crate::{arguments, json, section_name, tables};
 
 pub fn command() -> Command {
     Command::new("sections")
-        .about("List section headers")
+        .about("List sections: name, address, size in memory, raw size, and flags by letter")
+        .after_help(flags::help())
         .args(arguments::section_table())
 }
 
@@ -23,19 +26,21 @@ struct Sections(Vec<ImageSectionHeader>);
 
 impl Answer for Sections {
     fn text(&self) -> String {
-        let mut text = String::from("no.   address  size     raw size raw at   flags    name\n");
+        let mut text = String::from("no.   name             address  size     raw size flags\n");
         for (header, number) in self.0.iter().zip(1..) {
-            // A name may hold anything that is UTF-8, also what a terminal would obey.
-            let name = header.name().escape_debug();
             let line = format!(
-                "{number:<5} {:08X} {:08X} {:08X} {:08X} {:08X} {name}",
+                "{number:<5} {:<16} {:08X} {:08X} {:08X} {}",
+                section_name::shown(header),
                 header.virtual_address,
                 header.virtual_size,
                 header.size_of_raw_data,
-                header.pointer_to_raw_data,
-                header.characteristics,
+                flags::letters(header.characteristics),
             );
             let _ = writeln!(text, "{}", line.trim_end());
+        }
+        let all: Vec<_> = self.0.iter().map(|header| header.characteristics).collect();
+        if let Some(legend) = flags::legend(&all) {
+            let _ = writeln!(text, "{legend}");
         }
         let _ = writeln!(text, "sections {}", self.0.len());
         text
@@ -43,8 +48,8 @@ impl Answer for Sections {
 
     fn json(&self) -> String {
         let list = json::list(self.0.iter().zip(1u32..), |text, (header, number)| {
-            let _ = write!(text, "{{\"number\":{number}");
-            let _ = write!(text, ",\"name\":{}", json::text(header.name()));
+            let name = section_name::members(Some(header));
+            let _ = write!(text, "{{\"number\":{number},{name}");
             macro_rules! numbers {
                 ($($field:ident)*) => {
                     $(let _ = write!(text, ",\"{}\":{}", stringify!($field), header.$field);)*
@@ -54,8 +59,8 @@ impl Answer for Sections {
             numbers!(pointer_to_relocations pointer_to_line_numbers);
             numbers!(number_of_relocations number_of_line_numbers);
             let characteristics = header.characteristics;
-            let flags = json::list(flags(characteristics), |text, flag| {
-                text.push_str(&json::text(flag));
+            let flags = json::list(flags::set(&[characteristics]), |text, flag| {
+                text.push_str(&json::text(flag.name));
             });
             let alignment = json::number(characteristics.alignment().map(u32::from));
             let _ = write!(
@@ -66,20 +71,4 @@ impl Answer for Sections {
         });
         format!("{{\"sections\":{list}}}\n")
     }
-}
-
-/// The names of the flags that are set.
-fn flags(characteristics: SectionCharacteristics) -> Vec<&'static str> {
-    let mut set = Vec::new();
-    macro_rules! flags {
-        ($($flag:ident)*) => {
-            $(if characteristics.$flag() {
-                set.push(stringify!($flag));
-            })*
-        };
-    }
-    flags!(executable initialized_data uninitialized_data other info remove comdat);
-    flags!(defer_speculative_exceptions global_pointer_relative purgeable locked preload);
-    flags!(lnk_nreloc_ovfl discardable not_cached not_paged shared execute read write);
-    set
 }
