@@ -11,6 +11,7 @@ const ROUNDS: std::ops::RangeInclusive<usize> = 15..=1001;
 
 pub struct Driver {
     pattern: String,
+    plain: bool,
     topic: &'static str,
     printed: &'static str,
     notes: Vec<String>,
@@ -85,10 +86,12 @@ fn rounds(mut round: impl FnMut(usize)) {
 }
 
 impl Driver {
-    /// Measures the rows that have the pattern in their text.
-    pub fn new(pattern: String) -> Self {
+    /// Measures the rows that have the pattern in their text. Plain, a row is its text, our time and
+    /// theirs in nanoseconds, with tabs between them, and nothing else is printed.
+    pub fn new(pattern: String, plain: bool) -> Self {
         Driver {
             pattern,
+            plain,
             topic: "",
             printed: "",
             notes: Vec::new(),
@@ -98,7 +101,7 @@ impl Driver {
 
     /// The rows that follow belong to a topic.
     pub fn topic(&mut self, topic: &'static str) {
-        for note in self.notes.drain(..) {
+        for note in self.notes.drain(..).filter(|_| !self.plain) {
             println!("\n{note}");
         }
         self.topic = topic;
@@ -126,7 +129,7 @@ impl Driver {
         if !self.matches(what) {
             return false;
         }
-        if self.printed != self.topic {
+        if self.printed != self.topic && !self.plain {
             self.printed = self.topic;
             println!("\n### {}\n", self.topic);
             println!("| question | ours | pdb | ratio | median ratio |");
@@ -184,11 +187,17 @@ impl Driver {
             ratios.push(a / b);
         });
         ratios.sort_by(f64::total_cmp);
+        let each = |least: f64| least / questions as f64;
+        let (ours, theirs) = (each(ours.least), each(theirs.least));
+        if self.plain {
+            println!("{what}\t{}\t{}", ours * 1e9, theirs * 1e9);
+            return;
+        }
         println!(
             "| {what} | {} | {} | {:.2} | {:.2} |",
-            shown(ours.least, questions),
-            shown(theirs.least, questions),
-            ours.least / theirs.least,
+            shown(ours),
+            shown(theirs),
+            ours / theirs,
             ratios[ratios.len() / 2]
         );
     }
@@ -202,7 +211,12 @@ impl Driver {
         rounds(|_| {
             ours.round();
         });
-        println!("| {what} | {} | – | – | – |", shown(ours.least, questions));
+        let each = ours.least / questions as f64;
+        if self.plain {
+            println!("{what}\t{}\t", each * 1e9);
+        } else {
+            println!("| {what} | {} | – | – | – |", shown(each));
+        }
         Some(ours.least)
     }
 
@@ -214,8 +228,8 @@ impl Driver {
     }
 }
 
-fn shown(seconds: f64, questions: usize) -> String {
-    match seconds / questions as f64 {
+fn shown(seconds: f64) -> String {
+    match seconds {
         each if each < 1e-6 => format!("{:.2} ns", each * 1e9),
         each if each < 1e-3 => format!("{:.2} µs", each * 1e6),
         each if each < 1.0 => format!("{:.2} ms", each * 1e3),

@@ -12,9 +12,13 @@ use crate::inputs::{numbers, sections, HEADERS};
 pub fn run(driver: &mut Driver) {
     driver.topic("Headers");
     all_headers(driver);
-    name(driver, ".text");
-    // Letters of two bytes each.
-    name(driver, "жзик");
+    name(driver, "name `.text`", b".text");
+    name(driver, "name `.textbss`", b".textbss");
+    // Letters of two bytes each, of three and of four.
+    for text in ["жзик", "日本", "𝄞𝄢"] {
+        name(driver, &format!("name `{text}`"), text.as_bytes());
+    }
+    name(driver, "name `größe` in Latin-1, no UTF-8", b"gr\xf6\xdfe");
     characteristics(driver);
 }
 
@@ -53,21 +57,22 @@ fn seen(address: u32, characteristics: u32) -> u64 {
 }
 
 /// The face tells how long a name is; the wrapper, like pdb, gives it as text.
-fn name(driver: &mut Driver, text: &str) {
-    let bytes = sections(96, text.as_bytes());
+fn name(driver: &mut Driver, what: &str, name: &[u8]) {
+    let bytes = sections(96, name);
     let table = SectionTable::new(&bytes);
     let theirs = Tables::new(&[Some(&bytes)]).headers(0).unwrap().unwrap();
+    let text = std::str::from_utf8(name).unwrap_or_default();
     assert_eq!((table.name(96), theirs[95].name()), (text, text));
     let asked: Vec<u16> = (1..=96).collect();
     let their_name = || all(&asked, |n| theirs[usize::from(n) - 1].name().len() as u64);
     driver.row(
-        &format!("name `{text}`, its length"),
+        &format!("{what}, its length"),
         asked.len(),
         || all(&asked, |n| gillacorn_name_length(&bytes, n) as u64),
         their_name,
     );
     driver.row(
-        &format!("name `{text}`, wrapper"),
+        &format!("{what}, wrapper"),
         asked.len(),
         || all(&asked, |n| table.name(n).len() as u64),
         their_name,

@@ -57,6 +57,14 @@ impl Case {
         self
     }
 
+    /// What a report shows beside the input, where a large table is cut; no part of a replay.
+    pub fn beside(&mut self, name: &str, bytes: &[u8]) -> &mut Self {
+        if let Some(text) = &mut self.text {
+            let _ = write!(text, " {name}={}", hex(bytes));
+        }
+        self
+    }
+
     /// The size by which an address is located, and whether the case is telling.
     pub fn by(&mut self, by: By, telling: bool) -> &mut Self {
         self.telling = telling;

@@ -1,5 +1,7 @@
 //! Section headers: header, name, flags, alignment.
 
+mod names;
+
 use gillacorn::ffi;
 use gillacorn::{ImageSectionHeader, SectionCharacteristics, SectionTable};
 use oracle::Tables;
@@ -30,7 +32,6 @@ pub fn run(tally: &mut Tally, rng: &mut Rng, want: u64) {
         let table: Vec<u8> = (0..length).map(|_| rng.next() as u8).collect();
         headers(tally, &table, &[0, 1, 2, 3, 4, usize::MAX]);
     }
-    names(tally);
     let most = gen::large(SECTIONS, SECTIONS.most);
     headers(tally, &most, &[0, 1, 65_533, 65_534, 65_535, 65_536]);
     let more = gen::large(SECTIONS, SECTIONS.most + 1);
@@ -44,35 +45,8 @@ pub fn run(tally: &mut Tally, rng: &mut Rng, want: u64) {
         headers(tally, &table, &places);
         (0..4).for_each(|_| characteristics(tally, rng.u32()));
     }
-}
-
-/// Every name of two bytes, and every name of four bytes at the edges of the ranges.
-fn names(tally: &mut Tally) {
-    let mut table = Vec::with_capacity(SECTIONS.width * SECTIONS.most);
-    let mut flush = |table: &mut Vec<u8>| {
-        let count = table.len() / SECTIONS.width;
-        let theirs = Tables::new(&[Some(table)]).headers(0).unwrap().unwrap();
-        for (place, header) in theirs.iter().enumerate().take(count) {
-            name(tally, table, place as u16 + 1, Judge::Rust, header.name());
-        }
-        table.clear();
-    };
-    let edges = gen::EDGES.iter();
-    let four = edges.flat_map(|a| gen::EDGES.iter().map(move |b| [*a, *b]));
-    let four = four.clone().flat_map(|ab| {
-        let rest = four.clone();
-        rest.map(move |cd| [ab[0], ab[1], cd[0], cd[1]])
-    });
-    let two = (0..=0xffffu16).map(|two| [two as u8, (two >> 8) as u8, 0, 0]);
-    for name in two.chain(four) {
-        if table.len() == SECTIONS.width * SECTIONS.most {
-            flush(&mut table);
-        }
-        let end = table.len() + SECTIONS.width;
-        table.extend_from_slice(&name);
-        table.resize(end, 0);
-    }
-    flush(&mut table);
+    // Last, so that the random tables above do not depend on how many numbers these take.
+    names::run(tally, rng);
 }
 
 /// pdb's header in the wrapper's type.
@@ -118,24 +92,11 @@ fn headers(tally: &mut Tally, table: &[u8], places: &[usize]) {
         });
         if let Ok(number) = u16::try_from(place) {
             let place = place.wrapping_sub(1);
-            let theirs = theirs.as_ref().ok().and_then(|headers| headers.get(place));
-            name(tally, table, number, judge, theirs.map_or("", |h| h.name()));
+            let theirs = theirs.as_ref().ok();
+            let theirs = theirs.map(|headers| headers.get(place).map_or("", |h| h.name()));
+            names::name(tally, table, number, theirs);
         }
     }
-}
-
-fn name(tally: &mut Tally, table: &[u8], number: u16, judge: Judge, expected: &str) {
-    let mut length = ffi::name_length(table, number) as u8;
-    let wrapped = SectionTable::new(table);
-    // The wrapper's two ways to the name have to give the same characters.
-    let place = usize::from(number).wrapping_sub(1);
-    let header = wrapped.header(place).ok().flatten().unwrap_or_default();
-    if wrapped.name(number) != expected || header.name() != expected {
-        length = length.wrapping_add(100);
-    }
-    tally.check(Op::Name, judge, &(expected.len() as u8), &length, |case| {
-        case.table("table", table).number("number", number);
-    });
 }
 
 macro_rules! all_flags {

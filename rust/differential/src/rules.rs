@@ -4,7 +4,7 @@
 
 mod sections;
 
-pub use self::sections::{extents_fit, section_offset, sizes, virtual_address, By, Sizes};
+pub use self::sections::{extents_fit, name, section_offset, sizes, virtual_address, By, Sizes};
 
 /// A value, none, or the number of a refusal.
 pub type Answer<T> = Result<Option<T>, u32>;

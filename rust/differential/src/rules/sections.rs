@@ -1,4 +1,6 @@
-//! Sections: from an address to its section, by either size, and back.
+//! Sections: their names, from an address to its section, by either size, and back.
+
+use core::str::from_utf8;
 
 use super::{fits, u32_at, Answer, SECTIONS};
 
@@ -69,6 +71,18 @@ pub fn virtual_address(table: &[u8], section: u16, offset: u32) -> Answer<u32> {
     };
     let sum = |header: Header| fits(header.virtual_address + u64::from(offset));
     header.map(sum).transpose()
+}
+
+/// The bytes before the first zero of the eight, if Rust takes them as UTF-8. Else none, and none of a
+/// section that is not there and of a table that is refused.
+pub fn name(table: &[u8], number: u16) -> &[u8] {
+    let mut headers = table.chunks_exact(SECTIONS.width);
+    let header = match (SECTIONS.count(table), number) {
+        (Err(_), _) | (_, 0) => None,
+        (Ok(_), number) => headers.nth(usize::from(number) - 1),
+    };
+    let text = header.and_then(|header| header[..8].split(|&byte| byte == 0).next());
+    text.filter(|text| from_utf8(text).is_ok()).unwrap_or(&[])
 }
 
 // ---- the domain of equality with pdb
