@@ -14,15 +14,10 @@ use Rattle.lent.proofs.Logic.{which, and-left, and-right}
 use Rattle.utf8.specs.Utf8.{Range, _to_, holds, afterLead, next, completes, utf8, UTF8-char}
 use Rattle.utf8.specs.Grammar.{Among, Fit, done, byte, Text, end, char}
 use Rattle.utf8.proofs.Leads.{same, passes, led}
+use Rattle.utf8.proofs.Reading.{never}
 
 contrary : {A : Type 0} → false ≡ true → A
 contrary z = let y : _≡_ {A = ℕ} 0 1 = cc in absurd (omega arith)
-
--- nothing mends a wrong byte
-never : (l : List ℕ) → completes none l ≡ false
-unfolding completes
-never [] = refl
-never (b ∷ l) = never l
 
 -- a byte that leads lies in the first range of an alternative, and what is due is the rest of it
 record Leads (forms : List (List Range)) (b : ℕ) (rs : List Range) : Type 0 where

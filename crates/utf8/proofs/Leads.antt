@@ -60,7 +60,7 @@ one-row (r ∷ rs) (q ∷ qs) t =
     let f : rs ≡ qs = one-row rs qs (and-right (sameRange r q) (sameRanges rs qs) t) in
     cc
 
-one-due : (r q : Option (List Range)) → same r q ≡ true → r ≡ q
+pub one-due : (r q : Option (List Range)) → same r q ≡ true → r ≡ q
 one-due none none t = refl
 one-due none (some q) t = cc
 one-due (some r) none t = cc

@@ -6,7 +6,7 @@ use Prim.Native.Nat.{ℕ, suc, _+_, _≤_, _<_}
 use native.Mathlib.Omega.{arith}
 use mathlib.Core.Bool.{Bool, true, false, cond}
 use mathlib.Core.List.{List, [], _∷_}
-use mathlib.Core.Option.{Option, some}
+use mathlib.Core.Option.{Option, none, some}
 use lib.ListN.{length, drop, getD, drop-of-length-le}
 use lib.Seq.{drop-cons}
 use lib.Dec.{leb}
@@ -34,6 +34,12 @@ module _ (s : List ℕ) (i : ℕ) where
   left-end : length s ≤ i → left s i ≡ []
   unfolding beforeZero
   left-end h = rw (drop-of-length-le s h)
+
+-- nothing mends a wrong byte
+pub never : (l : List ℕ) → completes none l ≡ false
+unfolding completes
+never [] = refl
+never (b ∷ l) = never l
 
 -- at place i of a text
 pub record Reading (s : List ℕ) (due : Option (List Range)) (i : ℕ) : Type 0 where
@@ -72,6 +78,12 @@ module _ (s : List ℕ) where
 
     pub reading-end : length s ≤ i → cond (complete due) i 0 ≡ length (ifUtf8 (beforeZero s))
     reading-end h = reading-done (left-end s i h)
+
+  pub reading-never : (i : ℕ) → Reading s none i → 0 ≡ length (ifUtf8 (beforeZero s))
+  unfolding ifUtf8
+  reading-never i r =
+      let e : utf8 (beforeZero s) ≡ false = sym (r .right) ∙ never (left s i) in
+      rw e
 
   -- after a character of ASCII nothing is due
   pub reading-ascii : (i : ℕ) → Reading s (some []) i → i < length s → holds (0x01 to 0x7F) (getD s i 0) ≡ true
