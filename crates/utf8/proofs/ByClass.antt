@@ -1,6 +1,6 @@
 -- A text as it is read by the classes of its bytes: what is due after a byte is what its class asks for.
 -- Assumes nothing.
-use mathlib.Core.Path.{_≡_, refl, sym, ap, _∙_}
+use mathlib.Core.Path.{_≡_, sym, ap, _∙_}
 use mathlib.Core.Logic.{_≢_, ⊎-elim}
 use Prim.Native.Nat.{ℕ, _+_, _≤_, _<_}
 use native.Mathlib.Omega.{arith}
@@ -13,11 +13,12 @@ use borrow.Author.Tests.{eqb-true, eqb-false}
 use Rattle.lent.proofs.Logic.{which}
 use Rattle.utf8.specs.Classes.{classOf}
 use Rattle.utf8.specs.Due.{following}
+use Rattle.utf8.specs.Reading.{Reading}
 use Rattle.utf8.specs.Text.{beforeZero, ifUtf8}
 use Rattle.utf8.specs.Utf8.{Range, UTF8-char, holds, afterLead, next}
 use Rattle.utf8.specs.declared.classes.Follow.{Follow}
 use Rattle.utf8.proofs.Classed.{Tested, classed, class-again, class-leads, class-follows, follow-not-zero}
-use Rattle.utf8.proofs.Reading.{Reading, reading-first, reading-more, reading-zero, reading-never}
+use Rattle.utf8.proofs.Reading.{reading-more, reading-zero, reading-never}
 
 -- at place i, which is not before `from`
 pub record ByClass (s classes : List ℕ) (from : ℕ) (due : Option (List Range)) (i : ℕ) : Type 0 where
@@ -29,13 +30,16 @@ pub record ByClass (s classes : List ℕ) (from : ℕ) (due : Option (List Range
 abbrev pub classAt : List ℕ → List ℕ → ℕ → ℕ
 classAt s classes i = getD classes (getD s i 0) 0
 
-pub restart : {s classes : List ℕ} {from i : ℕ} {due : Option (List Range)} (to : ℕ) → to ≤ from → ByClass s classes from due i
-    → ByClass s classes to due i
-restart to h k = record { reading = k .reading; tested = k .tested; onwards = omega (arith, k .onwards) }
+-- no place is before itself
+pub here : {s classes : List ℕ} {from i : ℕ} {due : Option (List Range)} → ByClass s classes from due i
+    → ByClass s classes i due i
+here k = record { reading = k .reading; tested = k .tested; onwards = omega arith }
 
 module _ {s classes : List ℕ} {from i : ℕ} (h : i < length s) (byte : getD s i 0 < 256) where
-  pub class-there : (due : Option (List Range)) → ByClass s classes from due i → classOf (classAt s classes i) ≡ classAt s classes i
-  class-there due k = rw (classed classes (k .tested) (getD s i 0) byte) (class-again (getD s i 0) byte)
+  -- what the table has for the byte is a class
+  pub read-class : (due : Option (List Range)) → ByClass s classes from due i
+      → classOf (classAt s classes i) ≡ classAt s classes i
+  read-class due k = rw (classed classes (k .tested) (getD s i 0) byte) (class-again (getD s i 0) byte)
 
   -- a character begins
   pub led-by-class : (due : Option (List Range)) → ByClass s classes from (some []) i → getD s i 0 ≢ 0

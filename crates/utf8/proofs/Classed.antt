@@ -1,12 +1,12 @@
--- The rule of a table of classes, and that no range of RFC 3629 tells a byte from the first of its class: tests that antt
--- computes over all bytes, carried to each of them.
+-- The rule of a table of classes, and that no range of RFC 3629 tells a byte from the first of its class: tests that
+-- antt computes over all bytes, carried to each of them.
 -- Assumes nothing.
 use mathlib.Core.Path.{_≡_, refl}
 use mathlib.Core.Logic.{_≢_}
 use Prim.Native.Nat.{ℕ, _≤_, _<_}
 use native.Mathlib.Omega.{arith}
 use mathlib.Core.Bool.{Bool, true, false, cond, not}
-use mathlib.Core.List.{List, [], _∷_}
+use mathlib.Core.List.{List, [], _∷_, flatten}
 use mathlib.Core.Option.{none}
 use lib.ListN.{getD}
 use lib.Dec.{eqb, leb}
@@ -14,7 +14,7 @@ use borrow.Author.Tests.{eq-eqb, eqb-true, leb-true}
 use Rattle.lent.proofs.Logic.{and-left}
 use Rattle.utf8.specs.Classes.{classOf, Classed}
 use Rattle.utf8.specs.Due.{following}
-use Rattle.utf8.specs.Utf8.{Range, holds, afterLead, UTF8-char}
+use Rattle.utf8.specs.Utf8.{holds, afterLead, UTF8-char}
 use Rattle.utf8.specs.declared.classes.Follow.{Follow}
 use Rattle.utf8.specs.declared.classes.Follow.the-variants as follow
 use Rattle.utf8.proofs.Leads.{passes, passed, same, one-due}
@@ -31,16 +31,18 @@ pub record Tested (table : List ℕ) : Type 0 where
   pub test : all (λ (b : ℕ). eqb (getD table b 0) (classOf b)) ≡ true
 
 pub classed : (table : List ℕ) → Tested table → Classed table
-classed table t b h = eqb-true (getD table b 0) (classOf b) (each (λ (k : ℕ). eqb (getD table k 0) (classOf k)) (t .test) b h)
+classed table t b h =
+    eqb-true (getD table b 0) (classOf b) (each (λ (k : ℕ). eqb (getD table k 0) (classOf k)) (t .test) b h)
 
 -- a class goes by a byte of its own
 pub class-again : (b : ℕ) → b < 256 → classOf (classOf b) ≡ classOf b
-unfolding classOf
-class-again b h = eqb-true (classOf (classOf b)) (classOf b) (each (λ (k : ℕ). eqb (classOf (classOf k)) (classOf k)) refl b h)
+unfolding classOf flatten
+class-again b h =
+    eqb-true (classOf (classOf b)) (classOf b) (each (λ (k : ℕ). eqb (classOf (classOf k)) (classOf k)) refl b h)
 
 -- the bytes of a class lead alike
 pub class-leads : (b : ℕ) → b < 256 → afterLead UTF8-char (classOf b) ≡ afterLead UTF8-char b
-unfolding classOf afterLead
+unfolding classOf flatten afterLead
 class-leads b h =
     one-due (afterLead UTF8-char (classOf b)) (afterLead UTF8-char b)
     (each (λ (k : ℕ). same (afterLead UTF8-char (classOf k)) (afterLead UTF8-char k)) refl b h)
@@ -58,7 +60,7 @@ alike-one false false e = refl
 
 -- and follow alike
 pub class-follows : (f : Follow) (b : ℕ) → b < 256 → holds (following f) (classOf b) ≡ holds (following f) b
-unfolding classOf alike
+unfolding classOf flatten alike
 class-follows f b h = alike-one (holds (following f) (classOf b)) (holds (following f) b) (each (test f) (tried f) b h)
   where
     test : Follow → ℕ → Bool
@@ -104,7 +106,7 @@ abbrev pub leaders : List ℕ
 leaders = 0x00 ∷ 0xC2 ∷ 0xE0 ∷ 0xE1 ∷ 0xED ∷ 0xEE ∷ 0xF0 ∷ 0xF1 ∷ 0xF4 ∷ []
 
 pub no-lead : (k : ℕ) → k < 256 → classOf k ≡ k → among leaders k ≡ false → none ≡ afterLead UTF8-char k
-unfolding classOf afterLead
+unfolding classOf flatten afterLead
 no-lead k h e n =
     one-due none (afterLead UTF8-char k) (other leaders (λ (c : ℕ). same none (afterLead UTF8-char c)) refl k h e n)
 
@@ -114,7 +116,7 @@ followers = 0x80 ∷ 0x90 ∷ 0xA0 ∷ []
 
 pub no-follow : (f : Follow) (k : ℕ) → k < 256 → classOf k ≡ k → among followers k ≡ false
     → false ≡ holds (following f) k
-unfolding classOf alike
+unfolding classOf flatten alike
 no-follow f k h e n = alike-one false (holds (following f) k) (other followers (test f) (tried f) k h e n)
   where
     test : Follow → ℕ → Bool

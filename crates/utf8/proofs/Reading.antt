@@ -7,18 +7,15 @@ use native.Mathlib.Omega.{arith}
 use mathlib.Core.Bool.{Bool, true, false, cond}
 use mathlib.Core.List.{List, [], _∷_}
 use mathlib.Core.Option.{Option, none, some}
-use lib.ListN.{length, drop, getD, drop-of-length-le}
+use lib.ListN.{length, getD, drop-of-length-le}
 use lib.Seq.{drop-cons}
 use lib.Dec.{leb}
 use borrow.Author.Tests.{eq-eqb, ne-eqb, leb-true}
 use Rattle.lent.proofs.Logic.{and-left, and-right}
+use Rattle.utf8.specs.Reading.{left, Reading}
 use Rattle.utf8.specs.Text.{beforeZero, ifUtf8}
 use Rattle.utf8.specs.Utf8.{Range, _to_, holds, afterLead, next, complete, completes, utf8}
 use Rattle.utf8.proofs.Leads.{led}
-
--- the part before the first zero from place i on
-abbrev pub left : List ℕ → ℕ → List ℕ
-left s i = beforeZero (drop i s)
 
 module _ (s : List ℕ) (i : ℕ) where
   left-zero : i < length s → getD s i 0 ≡ 0 → left s i ≡ []
@@ -40,12 +37,6 @@ pub never : (l : List ℕ) → completes none l ≡ false
 unfolding completes
 never [] = refl
 never (b ∷ l) = never l
-
--- at place i of a text
-pub record Reading (s : List ℕ) (due : Option (List Range)) (i : ℕ) : Type 0 where
-  pub until : i ≤ length s
-  pub long : i + length (left s i) ≡ length (beforeZero s)
-  pub right : completes due (left s i) ≡ utf8 (beforeZero s)
 
 length-if : (t : Bool) (l : List ℕ) → length (cond t l []) ≡ cond t (length l) 0
 length-if true l = refl

@@ -1,4 +1,4 @@
--- What a text may go on with, as the code holds it, in the terms of RFC 3629's table.
+-- What a text may go on with, as the code holds it, in the terms of RFC 3629's table. No public promise cites this.
 use Prim.Native.Nat.{ℕ, zero, suc}
 use mathlib.Core.List.{List, [], _∷_}
 use mathlib.Core.Option.{Option, none, some}

@@ -3,3 +3,4 @@ pub mod Grammar
 pub mod Classes
 pub mod Due
 pub mod Text
+pub mod Reading

@@ -1,6 +1,9 @@
 // A text as it is read: character by character, each byte by its class.
 ghost use mathlib.Core.Path.{_≡_};
+ghost use mathlib.Core.List.{[]};
+ghost use mathlib.Core.Option.{some};
 ghost use lib.ListN.{length};
+ghost use Rattle.utf8.specs.Reading.{Reading};
 ghost use Rattle.utf8.specs.Text.{beforeZero, ifUtf8};
 ghost use Rattle.utf8.specs.Utf8.{_to_, holds};
 use crate::classes::CLASSES;
@@ -22,7 +25,7 @@ pub fn text_length(s: &[u8]) -> usize
 {
     let end = s.len();
     let mut i = 0;
-    // A call that reads the table of classes lays it out first, which takes longer than this.
+    // ASCII first: a call that reads the table of classes lays out its 256 bytes on the stack.
     while i < end && within(s[i], 0x01, 0x7F) {
         i += 1;
     }
@@ -32,16 +35,17 @@ pub fn text_length(s: &[u8]) -> usize
     if s[i] == 0 {
         return i;
     }
-    length_by_class(s)
+    length_by_class(s, i)
 }
 
-// The same, whatever the bytes are.
-fn length_by_class(s: &[u8]) -> usize
+// The same where all before `from` is read, and a character begins there.
+fn length_by_class(s: &[u8], from: usize) -> usize
+    requires { ⌜ Reading (now s) (some []) from ⌝ }
     ensures { λ r. ⌜ r ≡ length (ifUtf8 (beforeZero (now (s .entry)))) ⌝ }
 {
     let classes = CLASSES;
     let end = s.len();
-    let mut i = 0;
+    let mut i = from;
     while i < end {
         let b = s[i];
         if b == 0 {

@@ -3,17 +3,17 @@
 -- Assumes nothing.
 use mathlib.Core.Path.{_≡_, refl, sym, ap, _∙_}
 use mathlib.Core.Bool.{Bool, true, false, not}
-use mathlib.Core.List.{[], _∷_}
+use mathlib.Core.List.{[], _∷_, flatten}
 use mathlib.Core.Option.{none, some}
-use Prim.Native.Nat.{_+_, _-_, _≤_}
+use Prim.Native.Nat.{_+_, _-_}
 use native.Mathlib.Omega.{arith}
-use lib.ListN.{length, getD}
+use lib.ListN.{length}
 use denote.Ref.{now}
 use Rattle.utf8.specs.Classes.{classOf}
 use Rattle.utf8.specs.Due.{following, tails, toldDue}
 use Rattle.utf8.proofs.Leads.{tails-more}
-use Rattle.utf8.proofs.Reading.{reading-first, reading-zero, reading-end, reading-never}
-use Rattle.utf8.proofs.ByClass.{ByClass, class-there, led-by-class, followed-by-class, wrong-by-class, restart}
+use Rattle.utf8.proofs.Reading.{reading-zero, reading-end, reading-never}
+use Rattle.utf8.proofs.ByClass.{ByClass, read-class, led-by-class, followed-by-class, wrong-by-class, here}
 use borrow.Author.Needs.{needs}
 use Rattle.utf8.proofs.text.length_by_class.Statement.{statement}
 use Rattle.utf8.proofs.text.length_by_class.Tie as tie
@@ -27,22 +27,22 @@ yes true e = refl
 yes false e = e
 
 abbrev Inv-loop2 : tie.InvT-loop2
-Inv-loop2 s classes end i₀ b first rest follow₀ more₀ i follow more =
+Inv-loop2 s from classes end i₀ b first rest follow₀ more₀ i follow more =
     ByClass s classes i₀ (some (following follow ∷ tails more)) i
 
 abbrev μ-loop2 : tie.MeasureT-loop2
-μ-loop2 s classes end i₀ b first rest follow₀ more₀ i follow more = end - i
+μ-loop2 s from classes end i₀ b first rest follow₀ more₀ i follow more = end - i
 
 abbrev Inv-loop : tie.InvT-loop
-Inv-loop s classes end i₀ i = ByClass s classes i₀ (some []) i
+Inv-loop s from classes end i₀ i = ByClass s classes i (some []) i
 
 abbrev μ-loop : tie.MeasureT-loop
-μ-loop s classes end i₀ i = end - i
+μ-loop s from classes end i₀ i = end - i
 
 loop-holds : tie.Need-loop-holds Inv-loop2 μ-loop2 Inv-loop μ-loop
-unfolding classOf
+unfolding classOf flatten
 loop-holds c =
-    record { reading = reading-first (now (c .before .args .s)); tested = record { test = refl }; onwards = omega arith }
+    record { reading = c .before .pre; tested = record { test = refl }; onwards = omega arith }
 
 shared-slice-read-b : tie.Need-shared-slice-read-b Inv-loop2 μ-loop2 Inv-loop μ-loop
 shared-slice-read-b c = omega arith
@@ -63,7 +63,7 @@ lead-requires : tie.Need-lead-requires Inv-loop2 μ-loop2 Inv-loop μ-loop
 lead-requires c κs =
     let l = c .before .before .before in
     let byte = c .before .shared-slice-known2 .given (l .loop .i) in
-    class-there (omega arith) (omega (arith, byte)) (some []) (l .loop .inv)
+    read-class (omega arith) (omega (arith, byte)) (some []) (l .loop .inv)
 
 add-i : tie.Need-add-i Inv-loop2 μ-loop2 Inv-loop μ-loop
 add-i c = omega arith
@@ -92,8 +92,7 @@ loop-again c =
     let l = k .before .before .before in
     let byte = k .before .shared-slice-known2 .given (l .loop .i) in
     let told = sym (ap toldDue (c .enum-told2 .given .1)) ∙ c .before .before .lead .ensures in
-    let asked = led-by-class (omega arith) (omega (arith, byte)) (some []) (l .loop .inv) (k .if1 .left) told in
-    restart 0 (omega arith) asked
+    led-by-class (omega arith) (omega (arith, byte)) (some []) (l .loop .inv) (k .if1 .left) told
 
 enum-known-due : tie.Need-enum-known-due Inv-loop2 μ-loop2 Inv-loop μ-loop
 enum-known-due c = search needs
@@ -104,14 +103,12 @@ loop2-holds c =
     let l = k .before .before .before in
     let byte = k .before .shared-slice-known2 .given (l .loop .i) in
     let told = sym (ap toldDue (c .before .due .given .1)) ∙ c .before .before .before .lead .ensures in
-    let asked = led-by-class (omega arith) (omega (arith, byte)) _ (l .loop .inv) (k .if1 .left) told in
-    asked
+    led-by-class (omega arith) (omega (arith, byte)) _ (l .loop .inv) (k .if1 .left) told
 
 returns-3 : tie.Need-returns-3 Inv-loop2 μ-loop2 Inv-loop μ-loop
 returns-3 c =
     let l = c .before in
-    let s = now (l .before .before .before .before .before .before .before .before .before .before .args .s) in
-    reading-end s _ (l .loop2 .i) (l .loop2 .inv .reading) (omega arith)
+    reading-end _ _ (l .loop2 .i) (l .loop2 .inv .reading) (omega arith)
 
 shared-slice-read-b-2 : tie.Need-shared-slice-read-b-2 Inv-loop2 μ-loop2 Inv-loop μ-loop
 shared-slice-read-b-2 c = omega arith
@@ -124,10 +121,9 @@ array-read-class c = omega (arith, c .shared-slice-known3 .given (c .before .bef
 
 follows-requires : tie.Need-follows-requires Inv-loop2 μ-loop2 Inv-loop μ-loop
 follows-requires c κs =
-    let k = c in
-    let l = k .before .before in
-    let byte = k .shared-slice-known3 .given (l .loop2 .i) in
-    class-there (omega arith) (omega (arith, byte)) _ (l .loop2 .inv)
+    let l = c .before .before in
+    let byte = c .shared-slice-known3 .given (l .loop2 .i) in
+    read-class (omega arith) (omega (arith, byte)) _ (l .loop2 .inv)
 
 returns-4 : tie.Need-returns-4 Inv-loop2 μ-loop2 Inv-loop μ-loop
 returns-4 c =
@@ -151,7 +147,7 @@ loop-again-2 c =
     let told = yes (c .before .before .follows .result) (c .before .if3 .left) ∙ c .before .before .follows .ensures in
     let went = followed-by-class (omega arith) (omega (arith, byte)) (l .loop2 .follow) _ (l .loop2 .inv) told in
     let none-more : tails (l .loop2 .more) ≡ [] = ap tails (c .if4 .taken) in
-    restart 0 (omega arith) (rw none-more at went)
+    here (rw none-more at went)
 
 sub-more : tie.Need-sub-more Inv-loop2 μ-loop2 Inv-loop μ-loop
 sub-more c = omega arith

@@ -7,7 +7,8 @@ use Prim.Native.Nat.{_-_}
 use native.Mathlib.Omega.{arith}
 use lib.ListN.{length}
 use denote.Ref.{now}
-use Rattle.utf8.proofs.Reading.{Reading, reading-first, reading-ascii, reading-zero, reading-end}
+use Rattle.utf8.specs.Reading.{Reading}
+use Rattle.utf8.proofs.Reading.{reading-first, reading-ascii, reading-zero, reading-end}
 use borrow.Author.Needs.{needs}
 use Rattle.utf8.proofs.text.text_length.Statement.{statement}
 use Rattle.utf8.proofs.text.text_length.Tie as tie
@@ -56,7 +57,7 @@ returns-2 c =
     reading-zero s (some []) (l .loop .i) (l .loop .inv) (omega (arith, l .loop .inv .until)) (c .if3 .taken)
 
 length-by-class-requires : tie.Need-length-by-class-requires Inv-loop μ-loop
-length-by-class-requires c κs = search needs
+length-by-class-requires c κs = c .before .before .before .before .loop .inv
 
 returns-3 : tie.Need-returns-3 Inv-loop μ-loop
 returns-3 c = c .length-by-class .ensures
