@@ -31,7 +31,12 @@ const FOUR_F1: u8 = 0xF1;
 
 const FOUR_F4: u8 = 0xF4;
 
-// The class of each byte. C0 and F5 are those of bytes that no text has.
+// These are in no text: C0 and C1 would begin what has a shorter form, F5 to FF what lies beyond U+10FFFF.
+const SHORTER: u8 = 0xC0;
+
+const BEYOND: u8 = 0xF5;
+
+// The class of each byte.
 pub const CLASSES: [u8; 256] = *b"\
     \x00\x00\x00\x00\x00\x00\x00\x00\x00\x00\x00\x00\x00\x00\x00\x00\
     \x00\x00\x00\x00\x00\x00\x00\x00\x00\x00\x00\x00\x00\x00\x00\x00\

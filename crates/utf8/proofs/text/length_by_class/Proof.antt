@@ -146,7 +146,8 @@ loop-again-2 c =
     let byte = k .shared-slice-known3 .given (l .loop2 .i) in
     let told = yes (c .before .before .follows .result) (c .before .if3 .left) ∙ c .before .before .follows .ensures in
     let went = followed-by-class (omega arith) (omega (arith, byte)) (l .loop2 .follow) _ (l .loop2 .inv) told in
-    let none-more : tails (l .loop2 .more) ≡ [] = ap tails (c .if4 .taken) in
+    let zero-more : l .loop2 .more ≡ 0 = omega arith in
+    let none-more : tails (l .loop2 .more) ≡ [] = ap tails zero-more in
     here (rw none-more at went)
 
 sub-more : tie.Need-sub-more Inv-loop2 μ-loop2 Inv-loop μ-loop
