@@ -9,8 +9,8 @@ use mathlib.Core.Bool.{Bool, true, false, cond, not}
 use mathlib.Core.List.{List, [], _∷_, flatten}
 use mathlib.Core.Option.{none}
 use lib.ListN.{getD}
-use lib.Dec.{eqb, leb}
-use borrow.Author.Tests.{eq-eqb, eqb-true, leb-true}
+use lib.Dec.{eqb, leb, ltb}
+use borrow.Author.Tests.{eq-eqb, eqb-true, leb-true, ltb-true}
 use Rattle.lent.proofs.Logic.{and-left}
 use Rattle.utf8.specs.Classes.{classOf, Classed}
 use Rattle.utf8.specs.Due.{following}
@@ -20,15 +20,30 @@ use Rattle.utf8.specs.declared.classes.Follow.the-variants as follow
 use Rattle.utf8.proofs.Leads.{passes, passed, same, one-due}
 
 -- a test that all bytes pass
-abbrev pub all : (ℕ → Bool) → Bool
-all p = passes p 0 256
+abbrev pub allBytes : (ℕ → Bool) → Bool
+allBytes p = passes p 0 256
 
-each : (p : ℕ → Bool) → all p ≡ true → (b : ℕ) → b < 256 → p b ≡ true
+each : (p : ℕ → Bool) → allBytes p ≡ true → (b : ℕ) → b < 256 → p b ≡ true
 each p t b h = passed p 0 256 t b (omega arith) (omega arith)
+
+-- a test that all ranges of following bytes pass
+record AllRanges (p : Follow → Bool) : Type 0 where
+  pub any : p follow.Any ≡ true
+  pub low : p follow.Low ≡ true
+  pub high : p follow.High ≡ true
+  pub not-low : p follow.NotLow ≡ true
+  pub not-high : p follow.NotHigh ≡ true
+
+each-range : (p : Follow → Bool) → AllRanges p → (f : Follow) → p f ≡ true
+each-range p t follow.Any = t .any
+each-range p t follow.Low = t .low
+each-range p t follow.High = t .high
+each-range p t follow.NotLow = t .not-low
+each-range p t follow.NotHigh = t .not-high
 
 -- the rule, by one test over the whole table
 pub record Tested (table : List ℕ) : Type 0 where
-  pub test : all (λ (b : ℕ). eqb (getD table b 0) (classOf b)) ≡ true
+  pub test : allBytes (λ (b : ℕ). eqb (getD table b 0) (classOf b)) ≡ true
 
 pub classed : (table : List ℕ) → Tested table → Classed table
 classed table t b h =
@@ -61,31 +76,26 @@ alike-one false false e = refl
 -- and follow alike
 pub class-follows : (f : Follow) (b : ℕ) → b < 256 → holds (following f) (classOf b) ≡ holds (following f) b
 unfolding classOf flatten alike
-class-follows f b h = alike-one (holds (following f) (classOf b)) (holds (following f) b) (each (test f) (tried f) b h)
+class-follows f b h =
+    alike-one (holds (following f) (classOf b)) (holds (following f) b)
+    (each (test f) (each-range (λ (g : Follow). allBytes (test g)) tried f) b h)
   where
     test : Follow → ℕ → Bool
     test g k = alike (holds (following g) (classOf k)) (holds (following g) k)
 
-    tried : (g : Follow) → all (test g) ≡ true
-    tried follow.Any = refl
-    tried follow.Low = refl
-    tried follow.High = refl
-    tried follow.NotLow = refl
-    tried follow.NotHigh = refl
+    tried : AllRanges (λ (g : Follow). allBytes (test g))
+    tried = record { any = refl; low = refl; high = refl; not-low = refl; not-high = refl }
 
 -- a zero follows no byte
-low-positive : (f : Follow) → 0 < following f .low
-low-positive follow.Any = omega arith
-low-positive follow.Low = omega arith
-low-positive follow.High = omega arith
-low-positive follow.NotLow = omega arith
-low-positive follow.NotHigh = omega arith
-
 pub follow-not-zero : (f : Follow) (b : ℕ) → holds (following f) b ≡ true → b ≢ 0
 follow-not-zero f b t z =
     let low = following f .low in
     let h : low ≤ b = leb-true low b (and-left (leb low b) (leb b (following f .high)) t) in
-    omega (arith, low-positive f)
+    let positive : 0 < low = ltb-true 0 low (each-range (λ (g : Follow). ltb 0 (following g .low)) tried f) in
+    omega arith
+  where
+    tried : AllRanges (λ (g : Follow). ltb 0 (following g .low))
+    tried = record { any = refl; low = refl; high = refl; not-low = refl; not-high = refl }
 
 abbrev pub among : List ℕ → ℕ → Bool
 among [] k = false
@@ -95,8 +105,8 @@ among (c ∷ l) k = cond (eqb k c) true (among l k)
 abbrev others : List ℕ → (ℕ → Bool) → ℕ → Bool
 others l p k = cond (eqb (classOf k) k) (cond (among l k) true (p k)) true
 
-other : (l : List ℕ) (p : ℕ → Bool) → all (others l p) ≡ true → (k : ℕ) → k < 256 → classOf k ≡ k → among l k ≡ false
-    → p k ≡ true
+other : (l : List ℕ) (p : ℕ → Bool) → allBytes (others l p) ≡ true → (k : ℕ) → k < 256 → classOf k ≡ k
+    → among l k ≡ false → p k ≡ true
 other l p t k h e n =
     let q : others l p k ≡ true = each (others l p) t k h in
     rw (eq-eqb (classOf k) k e, n) at q
@@ -117,14 +127,12 @@ followers = 0x80 ∷ 0x90 ∷ 0xA0 ∷ []
 pub no-follow : (f : Follow) (k : ℕ) → k < 256 → classOf k ≡ k → among followers k ≡ false
     → false ≡ holds (following f) k
 unfolding classOf flatten alike
-no-follow f k h e n = alike-one false (holds (following f) k) (other followers (test f) (tried f) k h e n)
+no-follow f k h e n =
+    alike-one false (holds (following f) k)
+    (other followers (test f) (each-range (λ (g : Follow). allBytes (others followers (test g))) tried f) k h e n)
   where
     test : Follow → ℕ → Bool
     test g c = alike false (holds (following g) c)
 
-    tried : (g : Follow) → all (others followers (test g)) ≡ true
-    tried follow.Any = refl
-    tried follow.Low = refl
-    tried follow.High = refl
-    tried follow.NotLow = refl
-    tried follow.NotHigh = refl
+    tried : AllRanges (λ (g : Follow). allBytes (others followers (test g)))
+    tried = record { any = refl; low = refl; high = refl; not-low = refl; not-high = refl }

@@ -1,6 +1,6 @@
--- The class of a byte. RFC 3629's ranges cut the bytes into parts: a part begins where a range begins, and where one
--- has just ended. No range tells the bytes of one part from each other: they are a class, and it goes by the first of
--- them. No public promise cites this file.
+-- The class of a byte, as functions of this crate hand it on. No public promise cites this file.
+-- RFC 3629's ranges cut the bytes into parts: a part begins where a range begins, and where one has just ended. No
+-- range tells the bytes of one part from each other: they are a class, and it goes by the first of them.
 use mathlib.Core.Path.{_≡_}
 use Prim.Native.Nat.{ℕ, suc, max, _<_}
 use mathlib.Core.Bool.{cond}
