@@ -31,8 +31,8 @@ const FOUR_F1: u8 = 0xF1;
 
 const FOUR_F4: u8 = 0xF4;
 
-// These are in no text: C0 and C1 would begin what has a shorter form, F5 to FF what lies beyond U+10FFFF.
-const SHORTER: u8 = 0xC0;
+// These are in no text: C0 and C1 would begin overlong forms, F5 to FF letters beyond U+10FFFF.
+const OVERLONG: u8 = 0xC0;
 
 const BEYOND: u8 = 0xF5;
 
