@@ -1,5 +1,7 @@
 // The address map: conversions between addresses and offsets of the actual image and of the original
 // one. Each takes the tables on its path, behind their marks, and refuses at the first step that fails.
+#![tactic(auto)]
+
 ghost use Rattle.std.specs.Prelude.{◌≡◌};
 ghost use Rattle.lent.specs.Table.{if_present};
 ghost use Rattle.omap.specs.Lookup.{lookup_spec, told_looked};

@@ -1,5 +1,7 @@
 // One file for the tables of a build: their bytes one after the other, then a trailer of 56 bytes that points back at
 // them. A file that is not refused is the one bundle of the parts that it is read with.
+#![tactic(auto)]
+
 mod reader;
 mod writer;
 

@@ -2,6 +2,8 @@
 // so that the check proves it by computation from the definitions; the call then asks the face, and
 // the run compares once more. Codes: 0 a value, 255 none, else the refusal. Addresses are hex, as in
 // the document.
+#![tactic(auto)]
+
 mod addresses;
 mod bundles;
 mod clashes;

@@ -1,4 +1,6 @@
 // Clashes, where two different addresses of a window share a translation, and the way back from a translation.
+#![tactic(auto)]
+
 ghost use Rattle.std.specs.Prelude.{◌≡◌, true, List, ◌∷◌, ◌++◌, ℕ, ◌+◌, ◌-◌, ◌*◌, ◌≤◌, ◌<◌};
 ghost use Rattle.lent.specs.Order.{rising, keys};
 ghost use Rattle.lent.specs.Le.{le_at};

@@ -1,4 +1,6 @@
 // Frames: the legacy FPO table and the newer frame data table, decoded, and yielded as one.
+#![tactic(auto)]
+
 mod attributes;
 mod cursor;
 mod frame;

@@ -1,5 +1,7 @@
 // The frames of two tables. Standard input: the old table's length in bytes as u32, the old frames,
 // then the new frames, all little-endian.
+#![tactic(auto)]
+
 use streams::Taken;
 
 fn main() {

@@ -1,5 +1,7 @@
 // Tables in lent bytes: their little-endian fields, read and written, the refusals 1, 2 and 3 that a table gives, and
 // the search by halving. Everything above reads and writes its fields through this crate.
+#![tactic(auto)]
+
 mod output;
 
 ghost use Rattle.std.specs.Prelude.{◌≡◌, cond, ◌+◌, ◌≤◌, ◌<◌, min, max, length, ltb};

@@ -1,4 +1,6 @@
 // OMAP tables: the translation of a single address, the pieces of a window, and a cursor over them.
+#![tactic(auto)]
+
 ghost use Rattle.std.specs.Prelude.{◌≡◌, true};
 ghost use Rattle.lent.specs.Paper.{fitted};
 ghost use Rattle.lent.specs.Search.{binary_search};

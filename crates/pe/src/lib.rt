@@ -1,4 +1,6 @@
 // PE section headers in lent bytes: a header by its place, its flags, and the name of a section.
+#![tactic(auto)]
+
 mod characteristics;
 mod extent;
 mod header;

@@ -1,4 +1,6 @@
 // The pieces of a window as a lent list of records.
+#![tactic(auto)]
+
 ghost use Rattle.std.specs.Prelude.{◌≡◌, length};
 ghost use Rattle.omap.specs.Output.{told_windowed, window_spec};
 ghost use Rattle.ranges.specs.ListOut.{list_out};

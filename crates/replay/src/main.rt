@@ -1,6 +1,8 @@
 // Replays a fixed sample of the Rust's answers: asks our operations what the Rust was asked, and
 // compares. data/replay.bin holds the sample; rust/differential/src/replay.rs has its format and how
 // it is made.
+#![tactic(auto)]
+
 mod addresses;
 mod clashes;
 mod comparison;

@@ -1,4 +1,6 @@
 // Texts for a person: what the programs print, from input bytes to output bytes.
+#![tactic(auto)]
+
 mod frame_line;
 mod frames;
 mod text;

@@ -1,6 +1,8 @@
 // Standard input and output for the programs: an input is taken whole or not at all, and a read or a
 // write that fails is told on standard error. That a failed read is seen can't be said in a contract,
 // since the C library's own says nothing of what it read; tests/programs.sh tries it.
+#![tactic(auto)]
+
 ghost use Rattle.streams.specs.Taken.{Held};
 
 use libc::{STDERR_FILENO, STDIN_FILENO, STDOUT_FILENO};

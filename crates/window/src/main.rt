@@ -1,4 +1,6 @@
 // The pieces of a window. Standard input: a, b as u32, then an OMAP table, all little-endian.
+#![tactic(auto)]
+
 use streams::Taken;
 
 fn main() {
