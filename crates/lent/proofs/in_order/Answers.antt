@@ -1,0 +1,74 @@
+use Prim.Native.Nat.{◌/◌}
+use mathlib.Core.Path.{◌≡◌, refl, sym, ap, ◌∙◌}
+use mathlib.Core.Bool.{Bool, ◌&&◌, and-true}
+use native.Mathlib.Omega.{arith}
+use lib.ListN.{length}
+use lib.Dec.{eqb}
+use native.Mathlib.Nat.{mul-zero, div-le_self}
+use Rattle.lent.specs.Le.{le_at}
+use Rattle.lent.specs.Order.{key_at}
+use Rattle.lent.proofs.Place.{inside}
+use Rattle.lent.proofs.Rising.{after-step, rising-first, rising_none, rising-all}
+use Rattle.lent.proofs.in_order.Goals as goal
+
+pub returns-then-n-eq0 : goal.returns-then-n-eq0
+returns-then-n-eq0 c =
+    let a = c.args in
+    sym (rising_none (key_at a.width a.table.now) (length a.table.now / a.width) (omega arith))
+
+pub u32_at-before-requires : goal.u32_at-before-requires
+u32_at-before-requires c =
+    let a = c.args in
+    omega (arith, inside a.width (length a.table.now) 0 (omega arith))
+
+pub loop-i-init : goal.loop-i-init
+loop-i-init c =
+    let a = c.args in
+    let t = a.table.now in
+    let e : le_at 4 t 0 ≡ key_at a.width t 0 = ap (le_at 4 t) (sym (mul-zero a.width)) in (
+      omega arith,
+      (
+        omega arith,
+        (
+          refl,
+          rw (c.u32_at-before.ensures, e)
+              (rising-first (key_at a.width t) (length t / a.width) (omega arith)),
+        ),
+      ),
+    )
+
+pub overflow_mul-width : goal.overflow_mul-width
+overflow_mul-width c =
+    omega (arith, inside (c.args.width) (length (c.args.table.now)) c.loop-i.i (omega arith))
+
+pub u32_at-key-requires : goal.u32_at-key-requires
+u32_at-key-requires c =
+    omega (
+      arith,
+      inside (c.args.width) (length (c.args.table.now)) c.loop-i.i
+          (omega arith),
+    )
+
+pub overflow_add-i : goal.overflow_add-i
+overflow_add-i c =
+    omega (arith, div-le_self (length (c.args.table.now)) (c.args.width))
+
+pub loop-i-preserved : goal.loop-i-preserved
+loop-i-preserved c = (
+  omega arith,
+  (
+    omega arith,
+    (
+      refl,
+      rw (c.not_above-fault.ensures, c.u32_at-key.ensures)
+          (c.loop-i.invariant.1.1.1 ∙ after-step (key_at (c.args.width) (c.args.table.now)) c.loop-i.i (length (c.args.table.now) / c.args.width)
+          c.loop-i.before (omega arith) c.loop-i.fault),
+    ),
+  ),
+)
+
+pub returns : goal.returns
+returns c =
+    sym (c.loop-i.invariant.1.1.1 ∙ ap (λ (t : Bool). eqb c.loop-i.fault 0 && t)
+    (rising-all (key_at (c.args.width) (c.args.table.now)) c.loop-i.before c.loop-i.i (length (c.args.table.now) / c.args.width) (omega arith))
+    ∙ and-true (eqb c.loop-i.fault 0))
