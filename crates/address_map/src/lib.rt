@@ -16,22 +16,22 @@ use omap::Looked;
 use pe::ExtentBy;
 
 // An address in the actual image.
-#[derive(Drop)]
+#[derive(Clone, Copy)]
 pub struct Rva(pub u32);
 
 // An address as it was before the image was rearranged.
-#[derive(Drop)]
+#[derive(Clone, Copy)]
 pub struct PdbInternalRva(pub u32);
 
 // An offset in a section of the actual image; sections count from 1.
-#[derive(Drop)]
+#[derive(Clone, Copy)]
 pub struct SectionOffset {
     pub offset: u32,
     pub section: u16,
 }
 
 // An offset in a section of the original image; sections count from 1.
-#[derive(Drop)]
+#[derive(Clone, Copy)]
 pub struct PdbInternalSectionOffset {
     pub offset: u32,
     pub section: u16,

@@ -8,7 +8,7 @@ use omap::Looked;
 use pe::ExtentBy;
 
 // Where an address lies.
-#[derive(Drop)]
+#[derive(Clone, Copy)]
 pub enum Located {
     // The section's number, from 1, and the offset in it.
     At(u16, u32),

@@ -9,7 +9,7 @@ pub use reader::{Opened, bytes_of, read};
 pub use writer::{Packed, write};
 
 // Where a part lies.
-#[derive(Drop)]
+#[derive(Clone, Copy)]
 pub enum Span {
     Absent,
     // Its start in the file, and its length.
@@ -17,7 +17,7 @@ pub enum Span {
 }
 
 // Where the six parts of a bundle lie, in the bundle's order.
-#[derive(Drop)]
+#[derive(Clone, Copy)]
 pub struct Spans {
     pub original_sections: Span,
     pub transformed_sections: Span,

@@ -7,7 +7,7 @@ ghost use Rattle.bundle.specs.Reading.{read_spec, told_opened, bytes_of};
 use crate::{ABSENT, MARK, MOST, Span, Spans, TRAILER, VERSION};
 
 // What a file is read as.
-#[derive(Drop)]
+#[derive(Clone, Copy)]
 pub enum Opened {
     Parts(Spans),
     // Refusal 4: the file has more bytes than 32 bits count.

@@ -12,7 +12,7 @@ use crate::{ABSENT, MARK, MOST, Span, Spans, TRAILER, VERSION};
 use lent::{if_present, put_bytes, put_u32};
 
 // What the writer answers.
-#[derive(Drop)]
+#[derive(Clone, Copy)]
 pub enum Packed {
     // So many bytes are written.
     Bytes(usize),
@@ -23,7 +23,7 @@ pub enum Packed {
 }
 
 // Where the parts of a bundle lie, and where the last of them ends.
-#[derive(Drop)]
+#[derive(Clone, Copy)]
 struct Placed {
     spans: Spans,
     end: usize,

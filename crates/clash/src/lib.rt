@@ -17,7 +17,7 @@ use omap::walk::{Next, Piece, end_in, next_piece, span_of};
 use omap::windows::{Counted, count};
 
 // What the clash check answers.
-#[derive(Drop)]
+#[derive(Clone, Copy)]
 pub enum Clashed {
     // No two addresses of the window share a translation.
     Single,
@@ -29,7 +29,7 @@ pub enum Clashed {
 }
 
 // What going back answers.
-#[derive(Drop)]
+#[derive(Clone, Copy)]
 pub enum Back {
     Nothing,
     One(u32),
@@ -41,21 +41,21 @@ pub enum Back {
 }
 
 // The first target that a piece shares with a later one, and its source there.
-#[derive(Drop)]
+#[derive(Clone, Copy)]
 enum Shared {
     Nothing,
     At { target: u64, source: u32 },
 }
 
 // The least shared target found so far, and its source in a later piece; with none found, the end of the search.
-#[derive(Drop)]
+#[derive(Clone, Copy)]
 struct Best {
     pub target: u64,
     pub source: u32,
 }
 
 // The sources kept so far, at most two.
-#[derive(Drop)]
+#[derive(Clone, Copy)]
 enum Kept {
     Nothing,
     One(u32),

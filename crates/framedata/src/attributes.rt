@@ -3,7 +3,7 @@ ghost use Rattle.std.specs.Prelude.{◌≡◌, ◌/◌};
 ghost use Rattle.framedata.specs.Attributes.{type_number, attributes, told_attributes};
 
 // A compiler specific frame type, as the old table has it; program strings have superseded it.
-#[derive(Drop)]
+#[derive(Clone, Copy)]
 pub enum FrameType {
     // Frame which does not have any debug info.
     Unknown,
@@ -19,7 +19,7 @@ pub enum FrameType {
     FrameData,
 }
 
-#[derive(Drop)]
+#[derive(Clone, Copy)]
 pub struct Attributes {
     pub ty: FrameType,
     // Number of bytes of prologue code.

@@ -10,14 +10,14 @@ use lent::{Checked, NEW_FRAME, OLD_FRAME, Refusal};
 
 // Where an iteration stands: the place of the next record in each table.
 #[repr(C)]
-#[derive(Drop)]
+#[derive(Clone, Copy)]
 pub struct FrameCursor {
     pub old_index: usize,
     pub new_index: usize,
 }
 
 // What one step answers, with the cursor to go on from.
-#[derive(Drop)]
+#[derive(Clone, Copy)]
 pub enum FrameStep {
     Frame(FrameData, FrameCursor),
     // No frame is left; the cursor is as it was.
@@ -29,7 +29,7 @@ pub enum FrameStep {
 }
 
 // Which table's record comes next.
-#[derive(Drop)]
+#[derive(Clone, Copy)]
 pub enum Next {
     Old,
     New,

@@ -8,21 +8,21 @@ use crate::attributes::{FrameType, attributes_of};
 use lent::{Checked, NEW_FRAME, OLD_FRAME, Refusal};
 
 // The maximum number of bytes pushed on the stack.
-#[derive(Drop)]
+#[derive(Clone, Copy)]
 pub enum StackSize {
     Bytes(u32),
     Nothing,
 }
 
 // A program string that allows to reconstruct register values for a frame, by its offset in the string table.
-#[derive(Drop)]
+#[derive(Clone, Copy)]
 pub enum Program {
     At(u32),
     Nothing,
 }
 
 // Frame data for a code block.
-#[derive(Drop)]
+#[derive(Clone, Copy)]
 pub struct FrameData {
     // Compiler-specific frame type.
     pub ty: FrameType,
@@ -53,7 +53,7 @@ pub struct FrameData {
 }
 
 // What asking for the frame at a place of one table answers.
-#[derive(Drop)]
+#[derive(Clone, Copy)]
 pub enum Framed {
     Frame(FrameData),
     // There is no such place.
@@ -65,7 +65,7 @@ pub enum Framed {
 }
 
 // The frame of an old record, unless its locals are too large.
-#[derive(Drop)]
+#[derive(Clone, Copy)]
 pub enum Decoded {
     Frame(FrameData),
     TooLarge,

@@ -10,7 +10,7 @@ use crate::tables::checks;
 use lent::{Checked, NEW_FRAME, OLD_FRAME, Refusal};
 
 // The cursor to iterate from, or the refusal of a table.
-#[derive(Drop)]
+#[derive(Clone, Copy)]
 pub enum FrameStarted {
     At(FrameCursor),
     Refused(Refusal),

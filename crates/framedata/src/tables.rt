@@ -7,7 +7,7 @@ ghost use Rattle.framedata.specs.Tables.{shape_of_both, fault_of_both, empty_spe
 use lent::{Checked, NEW_FRAME, OLD_FRAME, Refusal};
 
 // Whether there is no frame at all.
-#[derive(Drop)]
+#[derive(Clone, Copy)]
 pub enum Emptiness {
     Yes,
     No,

@@ -9,7 +9,7 @@ use bundle::{Opened, Packed, Span, Spans};
 
 // Where a part lies in its file.
 #[repr(C)]
-#[derive(Drop)]
+#[derive(Clone, Copy)]
 pub struct PartSpan {
     pub present: bool,
     pub start: u32,
@@ -17,7 +17,7 @@ pub struct PartSpan {
 }
 
 #[repr(C)]
-#[derive(Drop)]
+#[derive(Clone, Copy)]
 pub struct PartSpans {
     pub original_sections: PartSpan,
     pub transformed_sections: PartSpan,
@@ -28,14 +28,14 @@ pub struct PartSpans {
 }
 
 #[repr(C)]
-#[derive(Drop)]
+#[derive(Clone, Copy)]
 pub struct SpansAnswer {
     pub code: u32,
     pub spans: PartSpans,
 }
 
 #[repr(C)]
-#[derive(Drop)]
+#[derive(Clone, Copy)]
 pub struct BytesAnswer {
     pub code: u32,
     pub bytes: usize,

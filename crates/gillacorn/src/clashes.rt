@@ -8,7 +8,7 @@ use lent::refusal_number;
 
 // The least two addresses that share a translation, beside the code.
 #[repr(C)]
-#[derive(Drop)]
+#[derive(Clone, Copy)]
 pub struct PairAnswer {
     pub code: u32,
     pub first: u32,
@@ -17,7 +17,7 @@ pub struct PairAnswer {
 
 // The sources of a translation: how many are shown, and which.
 #[repr(C)]
-#[derive(Drop)]
+#[derive(Clone, Copy)]
 pub struct SourcesAnswer {
     pub code: u32,
     pub sources: u32,

@@ -8,7 +8,7 @@ use omap::Looked;
 
 // A number beside its code.
 #[repr(C)]
-#[derive(Drop)]
+#[derive(Clone, Copy)]
 pub struct ValueAnswer {
     pub code: u32,
     pub value: u32,

@@ -16,7 +16,7 @@ use framedata::{
 use lent::refusal_number;
 
 #[repr(C)]
-#[derive(Drop)]
+#[derive(Clone, Copy)]
 pub struct Frame {
     pub ty: u32,
     pub code_start: u32,
@@ -36,21 +36,21 @@ pub struct Frame {
 }
 
 #[repr(C)]
-#[derive(Drop)]
+#[derive(Clone, Copy)]
 pub struct FrameAnswer {
     pub code: u32,
     pub frame: Frame,
 }
 
 #[repr(C)]
-#[derive(Drop)]
+#[derive(Clone, Copy)]
 pub struct FrameCursorAnswer {
     pub code: u32,
     pub cursor: FrameCursor,
 }
 
 #[repr(C)]
-#[derive(Drop)]
+#[derive(Clone, Copy)]
 pub struct FrameStepAnswer {
     pub code: u32,
     pub frame: Frame,

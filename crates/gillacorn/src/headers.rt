@@ -12,7 +12,7 @@ use pe::{Alignment, Given, ImageSectionHeader, SectionCharacteristics};
 
 // A header beside its code; all zeros where there is none to give.
 #[repr(C)]
-#[derive(Drop)]
+#[derive(Clone, Copy)]
 pub struct HeaderAnswer {
     pub code: u32,
     pub header: ImageSectionHeader,
@@ -20,7 +20,7 @@ pub struct HeaderAnswer {
 
 // What the characteristics of a section say.
 #[repr(C)]
-#[derive(Drop)]
+#[derive(Clone, Copy)]
 pub struct Flags {
     pub executable: bool,
     pub initialized_data: bool,

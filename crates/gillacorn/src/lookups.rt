@@ -10,7 +10,7 @@ use lent::refusal_number;
 use omap::{Quick, Recorded};
 
 #[repr(C)]
-#[derive(Drop)]
+#[derive(Clone, Copy)]
 pub struct RecordAnswer {
     pub code: u32,
     pub source: u32,
@@ -19,7 +19,7 @@ pub struct RecordAnswer {
 
 // A translation beside its code, and the number of records probed for it.
 #[repr(C)]
-#[derive(Drop)]
+#[derive(Clone, Copy)]
 pub struct QuickAnswer {
     pub code: u32,
     pub value: u32,

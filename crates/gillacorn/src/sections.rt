@@ -10,7 +10,7 @@ use pe::ExtentBy;
 
 // A section, from 1, and an offset in it, beside the code.
 #[repr(C)]
-#[derive(Drop)]
+#[derive(Clone, Copy)]
 pub struct OffsetAnswer {
     pub code: u32,
     pub section: u16,

@@ -9,21 +9,21 @@ use omap::cursor::{Cursor, Step};
 use omap::windows::Windowed;
 
 #[repr(C)]
-#[derive(Drop)]
+#[derive(Clone, Copy)]
 pub struct PiecesAnswer {
     pub code: u32,
     pub pieces: usize,
 }
 
 #[repr(C)]
-#[derive(Drop)]
+#[derive(Clone, Copy)]
 pub struct CursorAnswer {
     pub code: u32,
     pub cursor: Cursor,
 }
 
 #[repr(C)]
-#[derive(Drop)]
+#[derive(Clone, Copy)]
 pub struct StepAnswer {
     pub code: u32,
     pub start: u32,

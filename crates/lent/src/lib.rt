@@ -14,7 +14,7 @@ ghost use Rattle.lent.specs.Search.{binary_search};
 pub use output::{put_bytes, put_u32};
 
 // Why a table is refused: document 01's numbers 1, 2 and 3.
-#[derive(Drop)]
+#[derive(Clone, Copy)]
 pub enum Refusal {
     // Its length is no multiple of its record.
     Length,
@@ -58,7 +58,7 @@ pub const NEW_FRAME: usize = 32;
 
 const MOST_FRAMES: usize = 1048576;
 
-#[derive(Drop)]
+#[derive(Clone, Copy)]
 pub enum Checked {
     Good,
     Refused(Refusal),
@@ -232,7 +232,7 @@ fn chosen(first: bool, x: usize, y: usize) -> usize
 }
 
 // Where a search by halving ends, and how many records it probed.
-#[derive(Drop)]
+#[derive(Clone, Copy)]
 pub struct Searched {
     pub place: usize,
     pub probes: usize,

@@ -9,7 +9,7 @@ use crate::walk::{Piece, beside_start, fits};
 use lent::{Checked, Refusal};
 
 #[repr(C)]
-#[derive(Drop)]
+#[derive(Clone, Copy)]
 pub struct Cursor {
     // The start address of the part to come.
     pub address: u32,
@@ -22,14 +22,14 @@ pub struct Cursor {
     pub place: usize,
 }
 
-#[derive(Drop)]
+#[derive(Clone, Copy)]
 pub enum Started {
     At(Cursor),
     Refused(Refusal),
 }
 
 // What a step answers. Every answer hands a cursor back, and has it first: with a refusal, the one that was stepped.
-#[derive(Drop)]
+#[derive(Clone, Copy)]
 pub enum Step {
     // The next cursor, and a piece's start and end.
     Piece(Cursor, u32, u32),
@@ -43,7 +43,7 @@ pub enum Step {
 }
 
 // What one turn of a step finds.
-#[derive(Drop)]
+#[derive(Clone, Copy)]
 enum Turned {
     Piece(Cursor, u32, u32),
     Skip(Cursor),

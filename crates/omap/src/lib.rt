@@ -15,7 +15,7 @@ pub mod windows;
 use lent::{Checked, Refusal};
 
 // The record at a place of a table.
-#[derive(Drop)]
+#[derive(Clone, Copy)]
 pub enum Recorded {
     // Its source and its target.
     Record(u32, u32),
@@ -25,7 +25,7 @@ pub enum Recorded {
 }
 
 // The single translation of an address.
-#[derive(Drop)]
+#[derive(Clone, Copy)]
 pub enum Looked {
     At(u32),
     // The table maps the address to nowhere: a hole.
@@ -36,7 +36,7 @@ pub enum Looked {
 }
 
 // The same by the search alone, with the number of records that it probed.
-#[derive(Drop)]
+#[derive(Clone, Copy)]
 pub enum Quick {
     At(u32, u32),
     Nothing(u32),

@@ -9,7 +9,7 @@ ghost use Rattle.omap.specs.Walk.{Small, InOrder, Below, Begins, Bounded, NextIs
 
 // A mapped piece of a window: where it starts there, how many addresses it has, and where they go, which may be above
 // 32 bits.
-#[derive(Drop)]
+#[derive(Clone, Copy)]
 pub struct Piece {
     pub at: u64,
     pub size: u64,
@@ -17,14 +17,14 @@ pub struct Piece {
 }
 
 // The places of the records that a window can have pieces of: from `first` on, up to `last`.
-#[derive(Drop)]
+#[derive(Clone, Copy)]
 pub struct Span {
     pub first: usize,
     pub last: usize,
 }
 
 // What a walk finds next.
-#[derive(Drop)]
+#[derive(Clone, Copy)]
 pub enum Next {
     // A piece, and the place after its record.
     Piece(Piece, usize),

@@ -10,7 +10,7 @@ use crate::walk::{Next, beside_start, fits, next_piece, span_of};
 use lent::{Checked, Refusal};
 
 // How many pieces a window has.
-#[derive(Drop)]
+#[derive(Clone, Copy)]
 pub enum Counted {
     Pieces(usize),
     Refused(Refusal),
@@ -19,7 +19,7 @@ pub enum Counted {
 }
 
 // What the whole-window call answers.
-#[derive(Drop)]
+#[derive(Clone, Copy)]
 pub enum Windowed {
     // So many pieces are written.
     Pieces(usize),

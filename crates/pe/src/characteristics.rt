@@ -56,11 +56,11 @@ const IMAGE_SCN_ALIGN_1BYTES: u32 = 0x00100000;
 
 // The flags of a section header, which winnt.h defines as `IMAGE_SCN_` constants.
 #[repr(C)]
-#[derive(Drop)]
+#[derive(Clone, Copy)]
 pub struct SectionCharacteristics(pub u32);
 
 // The alignment of a section's data in bytes, where the flags specify one.
-#[derive(Drop)]
+#[derive(Clone, Copy)]
 pub enum Alignment {
     Bytes(u16),
     Nothing,

@@ -5,7 +5,7 @@ ghost use Rattle.pe.specs.Header.{header_at, layout};
 ghost use Rattle.pe.specs.Inside.{size_field};
 
 // Which of a header's two sizes the extent is.
-#[derive(Drop)]
+#[derive(Clone, Copy)]
 pub enum ExtentBy {
     // The size in memory, or the size on disk where that is 0.
     MemorySize,

@@ -7,7 +7,7 @@ use lent::Checked;
 
 // A PE `IMAGE_SECTION_HEADER`.
 #[repr(C)]
-#[derive(Drop)]
+#[derive(Clone, Copy)]
 pub struct ImageSectionHeader {
     // Eight bytes of UTF-8, filled up with zeros.
     pub name: [u8; 8],
@@ -32,7 +32,7 @@ pub struct ImageSectionHeader {
 }
 
 // Whether there is a header to give.
-#[derive(Drop)]
+#[derive(Clone, Copy)]
 pub enum Given {
     Header,
     // The place is past the last header.
@@ -41,7 +41,7 @@ pub enum Given {
 }
 
 // A header beside the flag that says whether it is one: all zeros where it is none.
-#[derive(Drop)]
+#[derive(Clone, Copy)]
 pub struct Headed {
     pub given: Given,
     pub header: ImageSectionHeader,

@@ -13,14 +13,14 @@ use omap::windows::{Counted, Windowed};
 
 // A piece of a window: where it starts, and its excluded end.
 #[repr(C)]
-#[derive(Drop)]
+#[derive(Clone, Copy)]
 pub struct Piece {
     pub start: u32,
     pub end: u32,
 }
 
 // What a call answers and writes.
-#[derive(Drop)]
+#[derive(Clone, Copy)]
 struct WindowPlan {
     pub answer: Windowed,
     // So many pieces are written, none where the call refuses.
@@ -30,7 +30,7 @@ struct WindowPlan {
 }
 
 // A piece pulled from a span, and the span behind it.
-#[derive(Drop)]
+#[derive(Clone, Copy)]
 struct PulledPiece {
     pub piece: Piece,
     pub rest: Span,

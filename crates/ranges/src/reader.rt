@@ -8,7 +8,7 @@ ghost use Rattle.ranges.specs.Inside.{as_taken, DrainPlanned};
 use omap::cursor::{Cursor, Started, Step};
 use omap::windows::Windowed;
 
-#[derive(Drop)]
+#[derive(Clone, Copy)]
 pub struct RangeReader<'t> {
     // The table's mark: absent, its bytes are not read.
     pub present: bool,
@@ -17,7 +17,7 @@ pub struct RangeReader<'t> {
 }
 
 // What a drain answers and writes.
-#[derive(Drop)]
+#[derive(Clone, Copy)]
 struct DrainPlan {
     pub answer: Windowed,
     // So many numbers are written, none where the call refuses.
@@ -27,7 +27,7 @@ struct DrainPlan {
 }
 
 // A piece taken from a step's answer, and the cursor behind it.
-#[derive(Drop)]
+#[derive(Clone, Copy)]
 struct TakenPiece {
     pub start: u32,
     pub end: u32,

@@ -32,7 +32,7 @@ pub(crate) fn virtual_address(s: &[u8]) -> Comparison {
 }
 
 // What each conversion is asked: its four tables, the extent, a section, and an offset or an address.
-#[derive(Drop)]
+#[derive(Clone, Copy)]
 pub struct Asked {
     pub original: Table,
     pub transformed: Table,

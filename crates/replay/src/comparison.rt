@@ -2,7 +2,7 @@
 use crate::input::{FAR, after, u8_at, u16_at, u32_at};
 
 // How far a case has been read, and whether all that was told up to there is ours.
-#[derive(Drop)]
+#[derive(Clone, Copy)]
 pub struct Comparison {
     pub at: usize,
     pub same: bool,

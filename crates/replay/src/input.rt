@@ -40,7 +40,7 @@ pub(crate) fn u32_at(s: &[u8], at: usize) -> u32 {
 }
 
 // A table in a case: its mark, and where its bytes are.
-#[derive(Drop)]
+#[derive(Clone, Copy)]
 pub struct Table {
     pub present: bool,
     pub from: usize,

@@ -15,7 +15,7 @@ use lent::{Refusal, put_bytes};
 pub const FRAMES_ROOM: usize = 327760;
 
 // How many frames an iteration over both tables yields.
-#[derive(Drop)]
+#[derive(Clone, Copy)]
 enum Tallied {
     Frames(usize),
     Refused(Refusal),

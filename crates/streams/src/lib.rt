@@ -8,7 +8,7 @@ ghost use Rattle.streams.specs.Taken.{Held};
 use libc::{STDERR_FILENO, STDIN_FILENO, STDOUT_FILENO};
 
 // What taking an input gives.
-#[derive(Drop)]
+#[derive(Clone, Copy)]
 pub enum Taken {
     // so many bytes, up to the end of the input or of the buffer
     Whole(usize),

@@ -56,7 +56,7 @@ pub const CLASSES: [u8; 256] = *b"\
     \xF0\xF1\xF1\xF1\xF4\xF5\xF5\xF5\xF5\xF5\xF5\xF5\xF5\xF5\xF5\xF5";
 
 // The bytes that may come next within a character.
-#[derive(Drop)]
+#[derive(Clone, Copy)]
 pub enum Follow {
     // Every byte that follows another: 0x80 to 0xBF.
     Any,
@@ -71,7 +71,7 @@ pub enum Follow {
 }
 
 // What a text may go on with, once the first byte of a character is read.
-#[derive(Drop)]
+#[derive(Clone, Copy)]
 pub enum Due {
     // Nothing makes it UTF-8 any more.
     Never,
