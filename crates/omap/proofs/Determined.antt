@@ -97,16 +97,16 @@ counted_back (value n) = count.Pieces n
 counted_back nothing = count.TooLarge
 counted_back (refused n) = cond (eqb n 4) count.TooLarge (count.Refused (refusal n))
 
-counted_back : (r : Counted) → counted_back (told_counted r) ≡ r
-counted_back (count.Pieces n) = refl
-counted_back (count.Refused Length) = refl
-counted_back (count.Refused Count) = refl
-counted_back (count.Refused Order) = refl
-counted_back count.TooLarge = refl
+counted-back : (r : Counted) → counted_back (told_counted r) ≡ r
+counted-back (count.Pieces n) = refl
+counted-back (count.Refused Length) = refl
+counted-back (count.Refused Count) = refl
+counted-back (count.Refused Order) = refl
+counted-back count.TooLarge = refl
 
 pub one-count : (present : Bool) (s : List ℕ) (a b : ℕ) (r q : Counted) → told_counted r ≡ count_spec present s a b
     → told_counted q ≡ count_spec present s a b → r ≡ q
-one-count present s a b = one_answer told_counted counted_back counted_back (count_spec present s a b)
+one-count present s a b = one_answer told_counted counted_back counted-back (count_spec present s a b)
 
 abbrev windowed_back : Written → Windowed
 windowed_back (counted n) = windowed.Pieces n

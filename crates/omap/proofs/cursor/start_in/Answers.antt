@@ -1,0 +1,50 @@
+use mathlib.Core.Path.{sym, ap, ◌∙◌, subst}
+use native.Mathlib.Omega.{arith}
+use Rattle.lent.specs.Paper.{number, told_checked}
+use Rattle.lent.specs.Order.{FirstAbove}
+use Rattle.lent.proofs.Search.{found-above}
+use Rattle.omap.proofs.Last.{in_order}
+use Rattle.omap.proofs.Starts.{start-refused, start-empty, start-before, start-record}
+use Rattle.omap.proofs.cursor.start_in.Goals as goal
+
+pub returns-in-Refused : goal.returns-in-Refused
+returns-in-Refused c =
+    let a = c.args in
+    start-refused a.table.now a.a a.b (number c.in-Refused.why)
+    (sym (ap told_checked c.in-Refused.is) ∙ c.omap_check-checked.ensures)
+
+pub returns-then-b-a : goal.returns-then-b-a
+returns-then-b-a c =
+    let a = c.args in
+    start-empty a.table.now a.a a.b ((sym (ap told_checked c.in_default.is) ∙ c.omap_check-checked.ensures)) (omega arith)
+
+pub returns-then-k-eq0 : goal.returns-then-k-eq0
+returns-then-k-eq0 c =
+    start-before (c.args.table.now) (c.args.a) c.args.b ((sym (ap told_checked c.in_default.is) ∙ c.omap_check-checked.ensures)) (omega arith)
+    (subst (FirstAbove 8 (c.args.table.now) (c.args.a)) c.if-k-eq0.true ((found-above 8 c.args.table.now c.args.a (in_order c.args.table.now (sym ((sym (ap told_checked c.in_default.is) ∙ c.omap_check-checked.ensures)))) c.binary_search-found.result c.binary_search-found.ensures)))
+
+pub overflow_mul-at : goal.overflow_mul-at
+overflow_mul-at c =
+    omega (arith, (found-above 8 c.args.table.now c.args.a (in_order c.args.table.now (sym ((sym (ap told_checked c.in_default.is) ∙ c.omap_check-checked.ensures)))) c.binary_search-found.result c.binary_search-found.ensures))
+
+pub u32_at-requires : goal.u32_at-requires
+u32_at-requires c =
+    omega (arith, (found-above 8 c.args.table.now c.args.a (in_order c.args.table.now (sym ((sym (ap told_checked c.in_default.is) ∙ c.omap_check-checked.ensures)))) c.binary_search-found.result c.binary_search-found.ensures))
+
+pub overflow_mul-at-2 : goal.overflow_mul-at-2
+overflow_mul-at-2 c =
+    omega (arith, (found-above 8 c.args.table.now c.args.a (in_order c.args.table.now (sym ((sym (ap told_checked c.in_default.is) ∙ c.omap_check-checked.ensures)))) c.binary_search-found.result c.binary_search-found.ensures))
+
+pub overflow_add-at : goal.overflow_add-at
+overflow_add-at c =
+    omega (arith, (found-above 8 c.args.table.now c.args.a (in_order c.args.table.now (sym ((sym (ap told_checked c.in_default.is) ∙ c.omap_check-checked.ensures)))) c.binary_search-found.result c.binary_search-found.ensures))
+
+pub u32_at-requires-2 : goal.u32_at-requires-2
+u32_at-requires-2 c =
+    omega (arith, (found-above 8 c.args.table.now c.args.a (in_order c.args.table.now (sym ((sym (ap told_checked c.in_default.is) ∙ c.omap_check-checked.ensures)))) c.binary_search-found.result c.binary_search-found.ensures))
+
+pub returns : goal.returns
+returns c =
+    rw (c.u32_at.ensures, c.u32_at-2.ensures)
+    (start-record (c.args.table.now) (c.args.a) c.args.b ((sym (ap told_checked c.in_default.is) ∙ c.omap_check-checked.ensures)) (omega arith) (c.binary_search-found.result.place)
+    (omega arith) ((found-above 8 c.args.table.now c.args.a (in_order c.args.table.now (sym ((sym (ap told_checked c.in_default.is) ∙ c.omap_check-checked.ensures)))) c.binary_search-found.result c.binary_search-found.ensures)))

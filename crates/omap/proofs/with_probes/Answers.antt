@@ -1,0 +1,13 @@
+use Rattle.omap.proofs.with_probes.Goals as goal
+
+pub returns-in-At : goal.returns-in-At
+returns-in-At c =
+    rw c.in-At.is
+
+pub returns-in-Nothing : goal.returns-in-Nothing
+returns-in-Nothing c =
+    rw c.in-Nothing.is
+
+pub returns-in-Refused : goal.returns-in-Refused
+returns-in-Refused c =
+    rw c.in-Refused.is
