@@ -55,6 +55,7 @@ as-text l k = go k.front k.whole k.fit
   where
     go : (c : List ℕ) → l ≡ c ++ k.back → Fit [] c → Text l
     go [] w done = rw w k.text
+    go (_ ∷ _) w f = elim f [ ]
 
 split : (rs : List Range) (l : List ℕ) → completes (some rs) l ≡ true → Split rs l
 unfolding completes
@@ -93,6 +94,8 @@ utf8-text l e = as-text l (split [] l e)
 met : (rs : List Range) (c l : List ℕ) → Fit rs c → completes (some rs) (c ++ l) ≡ utf8 l
 unfolding completes
 met [] [] l done = refl
+met [] (b ∷ c) l f = elim f [ ]
+met (r ∷ rs) [] l f = elim f [ ]
 met (r ∷ rs) (b ∷ c) l (byte h f) =
     let n : next (some (r ∷ rs)) b ≡ some rs = rw h in
     ap (λ (o : Option (List Range)). completes o (c ++ l)) n ∙ met rs c l f
@@ -127,6 +130,8 @@ module _ (b : ℕ) (r : Range) (rs : List Range) (h : holds r b ≡ true) where
 utf8-char : (form : List Range) (c l : List ℕ) → Among form UTF8-char → Fit form c → utf8 (c ++ l) ≡ utf8 l
 unfolding completes
 utf8-char [] [] l m done = refl
+utf8-char [] (b ∷ c) l m f = elim f [ ]
+utf8-char (r ∷ rs) [] l m f = elim f [ ]
 utf8-char (r ∷ rs) (b ∷ c) l m (byte h f) =
     ap (λ (o : Option (List Range)). completes o (c ++ l)) (sym (alone b r rs h m)) ∙ met rs c l f
 
