@@ -21,7 +21,7 @@ use Rattle.lent.proofs.Place.{listed-step, listed-end, listed-all, map-listed}
 use Rattle.framedata.specs.Records.{OldFrame, NewFrame, old_record, new_record, old_at, new_at, olds, news}
 use Rattle.framedata.specs.Frame.{Frame}
 use Rattle.framedata.specs.Tables.{shape_of_both}
-use Rattle.framedata.specs.Step.{Pick, old, new, both, pick, at_start, Stepped, frame, pick_fits, frame_of}
+use Rattle.framedata.specs.Step.{Pick, old, new, pick, at_start, Stepped, frame, pick_fits, frame_of}
 use Rattle.framedata.specs.Step.{past, handed, step_spec}
 use Rattle.framedata.specs.Merge.{followed, merge, olds_from, news_from, left, all_fit, until_too_large}
 use Rattle.framedata.specs.Merge.{answers, cursor_after, YieldsThen, starts_of, news_of, olds_of, passed_on_equality}
