@@ -72,23 +72,29 @@ listed_next f g e i (suc n) = rw (e i, listed_next f g e (suc i) n)
 abbrev pub spans_behind : List ℕ → List ℕ → ℕ → List Span
 spans_behind before l n = listed (λ (k : ℕ). span_at (before ++ l) (length before + 8 * k)) 0 n
 
+-- the spans after the first lie as they would behind the first one's fields
+span_moved : (before : List ℕ) (x : Span) (l after : List ℕ) (k : ℕ)
+    → span_at (before ++ (fields x ++ l ++ after)) (length before + 8 * suc k)
+    ≡ span_at (before ++ fields x ++ (l ++ after)) (length (before ++ fields x) + 8 * k)
+span_moved before x l after k =
+    let moved : before ++ (fields x ++ (l ++ after)) ≡ before ++ fields x ++ (l ++ after) =
+    sym (append_assoc before (fields x) (l ++ after)) in
+    let place : length before + 8 * suc k ≡ length (before ++ fields x) + 8 * k =
+    omega (arith, length-append before (fields x), length_fields x) in
+    rw (append_assoc (fields x) l after, moved, place)
+
 one_span : (before : List ℕ) (x : Span) (l after : List ℕ) (n : ℕ)
     → span_at (before ++ (fields x ++ (l ++ after))) (length before) ≡ x
     → spans_behind before (fields x ++ l ++ after) (suc n) ≡ x ∷ spans_behind (before ++ fields x) (l ++ after) n
 unfolding listed
 one_span before x l after n e =
-    let apart = append_assoc (fields x) l after in
-    let moved : before ++ (fields x ++ (l ++ after)) ≡ before ++ fields x ++ (l ++ after) =
-    sym (append_assoc before (fields x) (l ++ after)) in
-    let next : (k : ℕ) → span_at (before ++ (fields x ++ (l ++ after))) (length before + 8 * suc k)
-    ≡ span_at (before ++ fields x ++ (l ++ after)) (length (before ++ fields x) + 8 * k) =
-    λ k. let place : length before + 8 * suc k ≡ length (before ++ fields x) + 8 * k =
-    omega (arith, length-append before (fields x), length_fields x) in
-    rw (moved, place) in
-    rw (apart, add-zero (length before), e)
+    let here : span_at (before ++ (fields x ++ l ++ after)) (length before) ≡ x =
+    rw (append_assoc (fields x) l after) e in
+    rw (add-zero (length before), here)
     (ap (λ (k : List Span). x ∷ k)
-    (listed_next (λ (k : ℕ). span_at (before ++ (fields x ++ (l ++ after))) (length before + 8 * k))
-    (λ (k : ℕ). span_at (before ++ fields x ++ (l ++ after)) (length (before ++ fields x) + 8 * k)) next 0 n))
+    (listed_next (λ (k : ℕ). span_at (before ++ (fields x ++ l ++ after)) (length before + 8 * k))
+    (λ (k : ℕ). span_at (before ++ fields x ++ (l ++ after)) (length (before ++ fields x) + 8 * k))
+    (span_moved before x l after) 0 n))
 
 -- spans of parts that 32 bits count are read as they were written
 pub spans-read : (before : List ℕ) (p : ℕ) (l : List (Option (List ℕ))) (after : List ℕ)
@@ -97,10 +103,9 @@ pub spans-read : (before : List ℕ) (p : ℕ) (l : List (Option (List ℕ))) (a
 unfolding joined spans_from all_fields listed
 spans-read before p [] after h = refl
 spans-read before p (none ∷ l) after h =
-    rw (add-zero p)
-    (one_span before Absent (all_fields (spans_from p l)) after (length l)
-    (absent-read before (all_fields (spans_from p l) ++ after))
-    ∙ ap (λ (k : List Span). Absent ∷ k) (spans-read (before ++ fields Absent) p l after h))
+    one_span before Absent (all_fields (spans_from (p + 0) l)) after (length l)
+    (absent-read before (all_fields (spans_from (p + 0) l) ++ after))
+    ∙ ap (λ (k : List Span). Absent ∷ k) (spans-read (before ++ fields Absent) (p + 0) l after (omega (arith, h)))
 spans-read before p (some part ∷ l) after h =
     let x : Span = At p (length part) in
     let rest : List Span = spans_from (p + length part) l in
