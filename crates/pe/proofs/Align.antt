@@ -8,10 +8,10 @@ use native.Mathlib.Omega.{arith}
 use mathlib.Core.Bool.{true, false}
 use borrow.Author.Tests.{le-leb, lt-leb, eq-eqb, ne_eqb}
 use Rattle.lent.specs.Paper.{value, nothing}
-use Rattle.pe.specs.Flags.{IMAGE_SCN_TYPE_NO_PAD, has, align_bits, alignment_spec}
+use Rattle.pe.specs.Flags.{image_scn_type_no_pad, has, align_bits, alignment_spec}
 
 module _ (x : ℕ) where
-  module _ (pad : has IMAGE_SCN_TYPE_NO_PAD x ≡ true) where
+  module _ (pad : has image_scn_type_no_pad x ≡ true) where
     pub pad-alone : align_bits x ≡ 0 → value 1 ≡ alignment_spec x
     unfolding alignment_spec
     pad-alone e = rw (pad, eq-eqb (align_bits x) 0 e)
@@ -20,7 +20,7 @@ module _ (x : ℕ) where
     unfolding alignment_spec
     pad-with-bits n = rw (pad, ne_eqb (align_bits x) 0 n)
 
-  module _ (no-pad : has IMAGE_SCN_TYPE_NO_PAD x ≡ false) where
+  module _ (no-pad : has image_scn_type_no_pad x ≡ false) where
     pub no_bits : align_bits x < 1 → nothing ≡ alignment_spec x
     unfolding alignment_spec
     no_bits h = rw (no-pad, lt-leb 1 (align_bits x) h)

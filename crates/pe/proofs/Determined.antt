@@ -13,23 +13,23 @@ use Rattle.pe.specs.declared.characteristics.Alignment.TheVariants as alignment
 use Rattle.pe.specs.declared.header.ImageSectionHeader.{ImageSectionHeader}
 use Rattle.pe.specs.declared.header.Headed.{Headed}
 use Rattle.pe.specs.declared.header.Given.{Given}
-use Rattle.pe.specs.declared.header.Given.TheVariants as goal
+use Rattle.pe.specs.declared.header.Given.TheVariants as given
 
 abbrev given_back : Told ImageSectionHeader → Given
-given_back (value h) = goal.Header
-given_back nothing = goal.Nothing
-given_back (refused n) = goal.Refused (refusal n)
+given_back (value h) = given.Header
+given_back nothing = given.Nothing
+given_back (refused n) = given.Refused (refusal n)
 
-given_back : (g : Given) (h : ImageSectionHeader) → given_back (told_given g h) ≡ g
-given_back goal.Header h = refl
-given_back goal.Nothing h = refl
-given_back (goal.Refused Length) h = refl
-given_back (goal.Refused Count) h = refl
-given_back (goal.Refused Order) h = refl
+given-back : (g : Given) (h : ImageSectionHeader) → given_back (told_given g h) ≡ g
+given-back given.Header h = refl
+given-back given.Nothing h = refl
+given-back (given.Refused Length) h = refl
+given-back (given.Refused Count) h = refl
+given-back (given.Refused Order) h = refl
 
 -- the flag, whatever stands beside it
 pub one-given : (g q : Given) (h k : ImageSectionHeader) → told_given g h ≡ told_given q k → g ≡ q
-one-given g q h k e = sym (given_back g h) ∙ ap given_back e ∙ given_back q k
+one-given g q h k e = sym (given-back g h) ∙ ap given_back e ∙ given-back q k
 
 -- the flag and the header
 pub one-headed : (r q : Headed) (t : Told ImageSectionHeader) → Heads r t → Heads q t → r ≡ q
@@ -37,8 +37,8 @@ one-headed r q t a b =
     let flag : r.given ≡ q.given =
     one-given r.given q.given r.header q.header (a.told ∙ sym b.told) in
     let beside : r.header ≡ q.header = a.beside ∙ sym b.beside in
-    ap (λ (g : Given). record { goal = g; header = r.header }) flag
-    ∙ ap (λ (h : ImageSectionHeader). record { goal = q.given; header = h }) beside
+    ap (λ (g : Given). record { given = g; header = r.header }) flag
+    ∙ ap (λ (h : ImageSectionHeader). record { given = q.given; header = h }) beside
 
 abbrev alignment_back : Told ℕ → Alignment
 alignment_back (value n) = alignment.Bytes n

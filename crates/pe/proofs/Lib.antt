@@ -1,6 +1,6 @@
 pub mod Part
 pub mod Extents
-pub mod Given
+pub mod HeaderAnswers
 pub mod Align
 pub mod Names
 pub mod Determined

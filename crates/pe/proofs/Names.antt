@@ -21,7 +21,7 @@ use Rattle.utf8.specs.Utf8.{utf8}
 use Rattle.pe.specs.Name.{name_of, name_spec}
 use Rattle.pe.specs.declared.header.ImageSectionHeader.{ImageSectionHeader}
 use Rattle.pe.specs.declared.header.Given.{Given}
-use Rattle.pe.proofs.Given.{placed}
+use Rattle.pe.proofs.HeaderAnswers.{placed}
 
 module _ (s : List ℕ) (n : ℕ) where
   pub name-zero : n ≡ 0 → [] ≡ name_spec s n

@@ -9,14 +9,14 @@ use Rattle.lent.specs.Paper.{value, nothing}
 use Rattle.pe.specs.Header.{Field, layout, Name, VirtualSize, VirtualAddress, SizeOfRawData, PointerToRawData}
 use Rattle.pe.specs.Header.{PointerToRelocations, PointerToLinenumbers, NumberOfRelocations, NumberOfLinenumbers}
 use Rattle.pe.specs.Header.{Characteristics}
-use Rattle.pe.specs.Flags.{Flag, bit, alignment_spec, IMAGE_SCN_TYPE_NO_PAD, IMAGE_SCN_CNT_CODE}
-use Rattle.pe.specs.Flags.{IMAGE_SCN_CNT_INITIALIZED_DATA, IMAGE_SCN_CNT_UNINITIALIZED_DATA}
-use Rattle.pe.specs.Flags.{IMAGE_SCN_LNK_OTHER, IMAGE_SCN_LNK_INFO, IMAGE_SCN_LNK_REMOVE}
-use Rattle.pe.specs.Flags.{IMAGE_SCN_LNK_COMDAT, IMAGE_SCN_NO_DEFER_SPEC_EXC, IMAGE_SCN_GPREL}
-use Rattle.pe.specs.Flags.{IMAGE_SCN_MEM_PURGEABLE, IMAGE_SCN_MEM_LOCKED, IMAGE_SCN_MEM_PRELOAD}
-use Rattle.pe.specs.Flags.{IMAGE_SCN_LNK_NRELOC_OVFL, IMAGE_SCN_MEM_DISCARDABLE, IMAGE_SCN_MEM_NOT_CACHED}
-use Rattle.pe.specs.Flags.{IMAGE_SCN_MEM_NOT_PAGED, IMAGE_SCN_MEM_SHARED, IMAGE_SCN_MEM_EXECUTE}
-use Rattle.pe.specs.Flags.{IMAGE_SCN_MEM_READ, IMAGE_SCN_MEM_WRITE}
+use Rattle.pe.specs.Flags.{Flag, bit, alignment_spec, image_scn_type_no_pad, image_scn_cnt_code}
+use Rattle.pe.specs.Flags.{image_scn_cnt_initialized_data, image_scn_cnt_uninitialized_data}
+use Rattle.pe.specs.Flags.{image_scn_lnk_other, image_scn_lnk_info, image_scn_lnk_remove}
+use Rattle.pe.specs.Flags.{image_scn_lnk_comdat, image_scn_no_defer_spec_exc, image_scn_gprel}
+use Rattle.pe.specs.Flags.{image_scn_mem_purgeable, image_scn_mem_locked, image_scn_mem_preload}
+use Rattle.pe.specs.Flags.{image_scn_lnk_nreloc_ovfl, image_scn_mem_discardable, image_scn_mem_not_cached}
+use Rattle.pe.specs.Flags.{image_scn_mem_not_paged, image_scn_mem_shared, image_scn_mem_execute}
+use Rattle.pe.specs.Flags.{image_scn_mem_read, image_scn_mem_write}
 
 -- each field starts where the one before it ends, and the last ends at the end
 abbrev tiles : ℕ → List Field → ℕ → Bool
@@ -35,12 +35,12 @@ fields-fill = refl
 
 abbrev pub flags : List Flag
 flags =
-    IMAGE_SCN_TYPE_NO_PAD ∷ IMAGE_SCN_CNT_CODE ∷ IMAGE_SCN_CNT_INITIALIZED_DATA
-    ∷ IMAGE_SCN_CNT_UNINITIALIZED_DATA ∷ IMAGE_SCN_LNK_OTHER ∷ IMAGE_SCN_LNK_INFO ∷ IMAGE_SCN_LNK_REMOVE
-    ∷ IMAGE_SCN_LNK_COMDAT ∷ IMAGE_SCN_NO_DEFER_SPEC_EXC ∷ IMAGE_SCN_GPREL ∷ IMAGE_SCN_MEM_PURGEABLE
-    ∷ IMAGE_SCN_MEM_LOCKED ∷ IMAGE_SCN_MEM_PRELOAD ∷ IMAGE_SCN_LNK_NRELOC_OVFL ∷ IMAGE_SCN_MEM_DISCARDABLE
-    ∷ IMAGE_SCN_MEM_NOT_CACHED ∷ IMAGE_SCN_MEM_NOT_PAGED ∷ IMAGE_SCN_MEM_SHARED ∷ IMAGE_SCN_MEM_EXECUTE
-    ∷ IMAGE_SCN_MEM_READ ∷ IMAGE_SCN_MEM_WRITE
+    image_scn_type_no_pad ∷ image_scn_cnt_code ∷ image_scn_cnt_initialized_data
+    ∷ image_scn_cnt_uninitialized_data ∷ image_scn_lnk_other ∷ image_scn_lnk_info ∷ image_scn_lnk_remove
+    ∷ image_scn_lnk_comdat ∷ image_scn_no_defer_spec_exc ∷ image_scn_gprel ∷ image_scn_mem_purgeable
+    ∷ image_scn_mem_locked ∷ image_scn_mem_preload ∷ image_scn_lnk_nreloc_ovfl ∷ image_scn_mem_discardable
+    ∷ image_scn_mem_not_cached ∷ image_scn_mem_not_paged ∷ image_scn_mem_shared ∷ image_scn_mem_execute
+    ∷ image_scn_mem_read ∷ image_scn_mem_write
     ∷ []
 
 -- each flag has one bit, and no two have the same

@@ -7,51 +7,51 @@ use Rattle.pe.specs.declared.characteristics.Alignment.{Alignment}
 use Rattle.pe.specs.declared.characteristics.Alignment.TheVariants as alignment
 
 pub data Flag : Type 0 where
-  IMAGE_SCN_TYPE_NO_PAD : Flag
-  IMAGE_SCN_CNT_CODE : Flag
-  IMAGE_SCN_CNT_INITIALIZED_DATA : Flag
-  IMAGE_SCN_CNT_UNINITIALIZED_DATA : Flag
-  IMAGE_SCN_LNK_OTHER : Flag
-  IMAGE_SCN_LNK_INFO : Flag
-  IMAGE_SCN_LNK_REMOVE : Flag
-  IMAGE_SCN_LNK_COMDAT : Flag
-  IMAGE_SCN_NO_DEFER_SPEC_EXC : Flag
-  IMAGE_SCN_GPREL : Flag
-  IMAGE_SCN_MEM_PURGEABLE : Flag
-  IMAGE_SCN_MEM_LOCKED : Flag
-  IMAGE_SCN_MEM_PRELOAD : Flag
-  IMAGE_SCN_LNK_NRELOC_OVFL : Flag
-  IMAGE_SCN_MEM_DISCARDABLE : Flag
-  IMAGE_SCN_MEM_NOT_CACHED : Flag
-  IMAGE_SCN_MEM_NOT_PAGED : Flag
-  IMAGE_SCN_MEM_SHARED : Flag
-  IMAGE_SCN_MEM_EXECUTE : Flag
-  IMAGE_SCN_MEM_READ : Flag
-  IMAGE_SCN_MEM_WRITE : Flag
+  image_scn_type_no_pad : Flag
+  image_scn_cnt_code : Flag
+  image_scn_cnt_initialized_data : Flag
+  image_scn_cnt_uninitialized_data : Flag
+  image_scn_lnk_other : Flag
+  image_scn_lnk_info : Flag
+  image_scn_lnk_remove : Flag
+  image_scn_lnk_comdat : Flag
+  image_scn_no_defer_spec_exc : Flag
+  image_scn_gprel : Flag
+  image_scn_mem_purgeable : Flag
+  image_scn_mem_locked : Flag
+  image_scn_mem_preload : Flag
+  image_scn_lnk_nreloc_ovfl : Flag
+  image_scn_mem_discardable : Flag
+  image_scn_mem_not_cached : Flag
+  image_scn_mem_not_paged : Flag
+  image_scn_mem_shared : Flag
+  image_scn_mem_execute : Flag
+  image_scn_mem_read : Flag
+  image_scn_mem_write : Flag
 
 -- winnt.h, IMAGE_SECTION_HEADER: the bit of each flag, as the number that has it alone
 abbrev pub bit : Flag → ℕ
-bit IMAGE_SCN_TYPE_NO_PAD = 0x00000008
-bit IMAGE_SCN_CNT_CODE = 0x00000020
-bit IMAGE_SCN_CNT_INITIALIZED_DATA = 0x00000040
-bit IMAGE_SCN_CNT_UNINITIALIZED_DATA = 0x00000080
-bit IMAGE_SCN_LNK_OTHER = 0x00000100
-bit IMAGE_SCN_LNK_INFO = 0x00000200
-bit IMAGE_SCN_LNK_REMOVE = 0x00000800
-bit IMAGE_SCN_LNK_COMDAT = 0x00001000
-bit IMAGE_SCN_NO_DEFER_SPEC_EXC = 0x00004000
-bit IMAGE_SCN_GPREL = 0x00008000
-bit IMAGE_SCN_MEM_PURGEABLE = 0x00020000
-bit IMAGE_SCN_MEM_LOCKED = 0x00040000
-bit IMAGE_SCN_MEM_PRELOAD = 0x00080000
-bit IMAGE_SCN_LNK_NRELOC_OVFL = 0x01000000
-bit IMAGE_SCN_MEM_DISCARDABLE = 0x02000000
-bit IMAGE_SCN_MEM_NOT_CACHED = 0x04000000
-bit IMAGE_SCN_MEM_NOT_PAGED = 0x08000000
-bit IMAGE_SCN_MEM_SHARED = 0x10000000
-bit IMAGE_SCN_MEM_EXECUTE = 0x20000000
-bit IMAGE_SCN_MEM_READ = 0x40000000
-bit IMAGE_SCN_MEM_WRITE = 0x80000000
+bit image_scn_type_no_pad = 0x00000008
+bit image_scn_cnt_code = 0x00000020
+bit image_scn_cnt_initialized_data = 0x00000040
+bit image_scn_cnt_uninitialized_data = 0x00000080
+bit image_scn_lnk_other = 0x00000100
+bit image_scn_lnk_info = 0x00000200
+bit image_scn_lnk_remove = 0x00000800
+bit image_scn_lnk_comdat = 0x00001000
+bit image_scn_no_defer_spec_exc = 0x00004000
+bit image_scn_gprel = 0x00008000
+bit image_scn_mem_purgeable = 0x00020000
+bit image_scn_mem_locked = 0x00040000
+bit image_scn_mem_preload = 0x00080000
+bit image_scn_lnk_nreloc_ovfl = 0x01000000
+bit image_scn_mem_discardable = 0x02000000
+bit image_scn_mem_not_cached = 0x04000000
+bit image_scn_mem_not_paged = 0x08000000
+bit image_scn_mem_shared = 0x10000000
+bit image_scn_mem_execute = 0x20000000
+bit image_scn_mem_read = 0x40000000
+bit image_scn_mem_write = 0x80000000
 
 -- a flag is set in the characteristics x
 abbrev pub has : Flag → ℕ → Bool
@@ -65,7 +65,7 @@ align_bits x = x / 0x00100000 % 16
 -- 1; all else none
 unfoldable pub alignment_spec : ℕ → Told ℕ
 alignment_spec x =
-    cond (has IMAGE_SCN_TYPE_NO_PAD x)
+    cond (has image_scn_type_no_pad x)
     (cond (eqb (align_bits x) 0) (value 1) nothing)
     (cond (leb 1 (align_bits x) && leb (align_bits x) 14) (value (2 ^ (align_bits x - 1))) nothing)
 

@@ -1,11 +1,11 @@
 // What a section holds and how it is used: the flags of a section header, in the order of the Rust.
 ghost use Rattle.std.specs.Prelude.{◌≡◌, ◌<◌};
-ghost use Rattle.pe.specs.Flags.{IMAGE_SCN_CNT_CODE, IMAGE_SCN_CNT_INITIALIZED_DATA, IMAGE_SCN_CNT_UNINITIALIZED_DATA, IMAGE_SCN_LNK_OTHER};
-ghost use Rattle.pe.specs.Flags.{IMAGE_SCN_LNK_INFO, IMAGE_SCN_LNK_REMOVE, IMAGE_SCN_LNK_COMDAT};
-ghost use Rattle.pe.specs.Flags.{IMAGE_SCN_NO_DEFER_SPEC_EXC, IMAGE_SCN_GPREL};
-ghost use Rattle.pe.specs.Flags.{IMAGE_SCN_MEM_PURGEABLE, IMAGE_SCN_MEM_LOCKED, IMAGE_SCN_MEM_PRELOAD, IMAGE_SCN_LNK_NRELOC_OVFL};
-ghost use Rattle.pe.specs.Flags.{IMAGE_SCN_MEM_DISCARDABLE, IMAGE_SCN_MEM_NOT_CACHED, IMAGE_SCN_MEM_NOT_PAGED};
-ghost use Rattle.pe.specs.Flags.{IMAGE_SCN_MEM_SHARED, IMAGE_SCN_MEM_EXECUTE, IMAGE_SCN_MEM_READ, IMAGE_SCN_MEM_WRITE};
+ghost use Rattle.pe.specs.Flags.{image_scn_cnt_code, image_scn_cnt_initialized_data, image_scn_cnt_uninitialized_data, image_scn_lnk_other};
+ghost use Rattle.pe.specs.Flags.{image_scn_lnk_info, image_scn_lnk_remove, image_scn_lnk_comdat};
+ghost use Rattle.pe.specs.Flags.{image_scn_no_defer_spec_exc, image_scn_gprel};
+ghost use Rattle.pe.specs.Flags.{image_scn_mem_purgeable, image_scn_mem_locked, image_scn_mem_preload, image_scn_lnk_nreloc_ovfl};
+ghost use Rattle.pe.specs.Flags.{image_scn_mem_discardable, image_scn_mem_not_cached, image_scn_mem_not_paged};
+ghost use Rattle.pe.specs.Flags.{image_scn_mem_shared, image_scn_mem_execute, image_scn_mem_read, image_scn_mem_write};
 ghost use Rattle.lent.specs.Words.{is_set};
 ghost use Rattle.pe.specs.Flags.{alignment_spec, has, told_alignment};
 
@@ -77,84 +77,84 @@ fn is_set(x: u32, bit: u32) -> bool
 impl SectionCharacteristics {
     // The section contains executable code.
     pub fn executable(self) -> bool
-        ensures { result ≡ has IMAGE_SCN_CNT_CODE self.0 }
+        ensures { result ≡ has image_scn_cnt_code self.0 }
     {
         is_set(self.0, IMAGE_SCN_CNT_CODE)
     }
 
     // The section contains initialized data.
     pub fn initialized_data(self) -> bool
-        ensures { result ≡ has IMAGE_SCN_CNT_INITIALIZED_DATA self.0 }
+        ensures { result ≡ has image_scn_cnt_initialized_data self.0 }
     {
         is_set(self.0, IMAGE_SCN_CNT_INITIALIZED_DATA)
     }
 
     // The section contains uninitialized data.
     pub fn uninitialized_data(self) -> bool
-        ensures { result ≡ has IMAGE_SCN_CNT_UNINITIALIZED_DATA self.0 }
+        ensures { result ≡ has image_scn_cnt_uninitialized_data self.0 }
     {
         is_set(self.0, IMAGE_SCN_CNT_UNINITIALIZED_DATA)
     }
 
     // Reserved.
     pub fn other(self) -> bool
-        ensures { result ≡ has IMAGE_SCN_LNK_OTHER self.0 }
+        ensures { result ≡ has image_scn_lnk_other self.0 }
     {
         is_set(self.0, IMAGE_SCN_LNK_OTHER)
     }
 
     // The section contains comments or other information. Object files only.
     pub fn info(self) -> bool
-        ensures { result ≡ has IMAGE_SCN_LNK_INFO self.0 }
+        ensures { result ≡ has image_scn_lnk_info self.0 }
     {
         is_set(self.0, IMAGE_SCN_LNK_INFO)
     }
 
     // The section will not become part of the image. Object files only.
     pub fn remove(self) -> bool
-        ensures { result ≡ has IMAGE_SCN_LNK_REMOVE self.0 }
+        ensures { result ≡ has image_scn_lnk_remove self.0 }
     {
         is_set(self.0, IMAGE_SCN_LNK_REMOVE)
     }
 
     // The section contains COMDAT data. Object files only.
     pub fn comdat(self) -> bool
-        ensures { result ≡ has IMAGE_SCN_LNK_COMDAT self.0 }
+        ensures { result ≡ has image_scn_lnk_comdat self.0 }
     {
         is_set(self.0, IMAGE_SCN_LNK_COMDAT)
     }
 
     // Speculative exceptions handling bits in the TLB entries are reset for this section.
     pub fn defer_speculative_exceptions(self) -> bool
-        ensures { result ≡ has IMAGE_SCN_NO_DEFER_SPEC_EXC self.0 }
+        ensures { result ≡ has image_scn_no_defer_spec_exc self.0 }
     {
         is_set(self.0, IMAGE_SCN_NO_DEFER_SPEC_EXC)
     }
 
     // The section contains data referenced through the global pointer.
     pub fn global_pointer_relative(self) -> bool
-        ensures { result ≡ has IMAGE_SCN_GPREL self.0 }
+        ensures { result ≡ has image_scn_gprel self.0 }
     {
         is_set(self.0, IMAGE_SCN_GPREL)
     }
 
     // Reserved.
     pub fn purgeable(self) -> bool
-        ensures { result ≡ has IMAGE_SCN_MEM_PURGEABLE self.0 }
+        ensures { result ≡ has image_scn_mem_purgeable self.0 }
     {
         is_set(self.0, IMAGE_SCN_MEM_PURGEABLE)
     }
 
     // Reserved.
     pub fn locked(self) -> bool
-        ensures { result ≡ has IMAGE_SCN_MEM_LOCKED self.0 }
+        ensures { result ≡ has image_scn_mem_locked self.0 }
     {
         is_set(self.0, IMAGE_SCN_MEM_LOCKED)
     }
 
     // Reserved.
     pub fn preload(self) -> bool
-        ensures { result ≡ has IMAGE_SCN_MEM_PRELOAD self.0 }
+        ensures { result ≡ has image_scn_mem_preload self.0 }
     {
         is_set(self.0, IMAGE_SCN_MEM_PRELOAD)
     }
@@ -181,56 +181,56 @@ impl SectionCharacteristics {
 
     // The section contains extended relocations.
     pub fn lnk_nreloc_ovfl(self) -> bool
-        ensures { result ≡ has IMAGE_SCN_LNK_NRELOC_OVFL self.0 }
+        ensures { result ≡ has image_scn_lnk_nreloc_ovfl self.0 }
     {
         is_set(self.0, IMAGE_SCN_LNK_NRELOC_OVFL)
     }
 
     // The section can be discarded as needed.
     pub fn discardable(self) -> bool
-        ensures { result ≡ has IMAGE_SCN_MEM_DISCARDABLE self.0 }
+        ensures { result ≡ has image_scn_mem_discardable self.0 }
     {
         is_set(self.0, IMAGE_SCN_MEM_DISCARDABLE)
     }
 
     // The section cannot be cached.
     pub fn not_cached(self) -> bool
-        ensures { result ≡ has IMAGE_SCN_MEM_NOT_CACHED self.0 }
+        ensures { result ≡ has image_scn_mem_not_cached self.0 }
     {
         is_set(self.0, IMAGE_SCN_MEM_NOT_CACHED)
     }
 
     // The section cannot be paged.
     pub fn not_paged(self) -> bool
-        ensures { result ≡ has IMAGE_SCN_MEM_NOT_PAGED self.0 }
+        ensures { result ≡ has image_scn_mem_not_paged self.0 }
     {
         is_set(self.0, IMAGE_SCN_MEM_NOT_PAGED)
     }
 
     // The section can be shared in memory.
     pub fn shared(self) -> bool
-        ensures { result ≡ has IMAGE_SCN_MEM_SHARED self.0 }
+        ensures { result ≡ has image_scn_mem_shared self.0 }
     {
         is_set(self.0, IMAGE_SCN_MEM_SHARED)
     }
 
     // The section can be executed as code.
     pub fn execute(self) -> bool
-        ensures { result ≡ has IMAGE_SCN_MEM_EXECUTE self.0 }
+        ensures { result ≡ has image_scn_mem_execute self.0 }
     {
         is_set(self.0, IMAGE_SCN_MEM_EXECUTE)
     }
 
     // The section can be read.
     pub fn read(self) -> bool
-        ensures { result ≡ has IMAGE_SCN_MEM_READ self.0 }
+        ensures { result ≡ has image_scn_mem_read self.0 }
     {
         is_set(self.0, IMAGE_SCN_MEM_READ)
     }
 
     // The section can be written to.
     pub fn write(self) -> bool
-        ensures { result ≡ has IMAGE_SCN_MEM_WRITE self.0 }
+        ensures { result ≡ has image_scn_mem_write self.0 }
     {
         is_set(self.0, IMAGE_SCN_MEM_WRITE)
     }

@@ -14,7 +14,7 @@ use Rattle.pe.specs.Header.{header_at, header_spec, header_or0, told_given, Head
 use Rattle.pe.specs.declared.header.ImageSectionHeader.{ImageSectionHeader}
 use Rattle.pe.specs.declared.header.Headed.{Headed}
 use Rattle.pe.specs.declared.header.Given.{Given}
-use Rattle.pe.specs.declared.header.Given.TheVariants as goal
+use Rattle.pe.specs.declared.header.Given.TheVariants as given
 
 module _ (s : List ℕ) (i : ℕ) where
   pub header_refused : (n : ℕ) → some n ≡ section_shape s → refused n ≡ header_spec s i
@@ -45,14 +45,14 @@ module _ (s : List ℕ) (i : ℕ) where
       (of-value (header_at s i) (header_at s i) (section_shape s) (ltb i (length s / 40)) e)
 
   -- and so is the flag `Header`
-  pub flagged : (q : Given) → q ≡ goal.Header → told_given q (header_at s i) ≡ header_spec s i → i < length s / 40
+  pub flagged : (q : Given) → q ≡ given.Header → told_given q (header_at s i) ≡ header_spec s i → i < length s / 40
   flagged q e f = placed (sym (ap (λ (g : Given). told_given g (header_at s i)) e) ∙ f)
 
 -- what stands beside a flag says no more than the flag
 told-again : (g : Given) (h : ImageSectionHeader) → told_given g (header_or0 (told_given g h)) ≡ told_given g h
-told-again goal.Header h = refl
-told-again goal.Nothing h = refl
-told-again (goal.Refused why) h = refl
+told-again given.Header h = refl
+told-again given.Nothing h = refl
+told-again (given.Refused why) h = refl
 
 -- a header beside its flag answers as the flag does
 pub heads : (g q : Given) (h : ImageSectionHeader) (t : Told ImageSectionHeader) → q ≡ g → told_given q h ≡ t
