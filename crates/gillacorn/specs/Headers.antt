@@ -2,13 +2,13 @@
 use Rattle.std.specs.Prelude.{ℕ}
 use Rattle.lent.specs.Paper.{Told}
 use Rattle.pe.specs.Header.{header_or0}
-use Rattle.pe.specs.Flags.{has, IMAGE_SCN_CNT_CODE, IMAGE_SCN_CNT_INITIALIZED_DATA}
-use Rattle.pe.specs.Flags.{IMAGE_SCN_CNT_UNINITIALIZED_DATA, IMAGE_SCN_LNK_OTHER, IMAGE_SCN_LNK_INFO}
-use Rattle.pe.specs.Flags.{IMAGE_SCN_LNK_REMOVE, IMAGE_SCN_LNK_COMDAT, IMAGE_SCN_NO_DEFER_SPEC_EXC}
-use Rattle.pe.specs.Flags.{IMAGE_SCN_GPREL, IMAGE_SCN_MEM_PURGEABLE, IMAGE_SCN_MEM_LOCKED}
-use Rattle.pe.specs.Flags.{IMAGE_SCN_MEM_PRELOAD, IMAGE_SCN_LNK_NRELOC_OVFL, IMAGE_SCN_MEM_DISCARDABLE}
-use Rattle.pe.specs.Flags.{IMAGE_SCN_MEM_NOT_CACHED, IMAGE_SCN_MEM_NOT_PAGED, IMAGE_SCN_MEM_SHARED}
-use Rattle.pe.specs.Flags.{IMAGE_SCN_MEM_EXECUTE, IMAGE_SCN_MEM_READ, IMAGE_SCN_MEM_WRITE}
+use Rattle.pe.specs.Flags.{has, image_scn_cnt_code, image_scn_cnt_initialized_data}
+use Rattle.pe.specs.Flags.{image_scn_cnt_uninitialized_data, image_scn_lnk_other, image_scn_lnk_info}
+use Rattle.pe.specs.Flags.{image_scn_lnk_remove, image_scn_lnk_comdat, image_scn_no_defer_spec_exc}
+use Rattle.pe.specs.Flags.{image_scn_gprel, image_scn_mem_purgeable, image_scn_mem_locked}
+use Rattle.pe.specs.Flags.{image_scn_mem_preload, image_scn_lnk_nreloc_ovfl, image_scn_mem_discardable}
+use Rattle.pe.specs.Flags.{image_scn_mem_not_cached, image_scn_mem_not_paged, image_scn_mem_shared}
+use Rattle.pe.specs.Flags.{image_scn_mem_execute, image_scn_mem_read, image_scn_mem_write}
 use Rattle.pe.specs.declared.header.ImageSectionHeader.{ImageSectionHeader}
 use Rattle.gillacorn.specs.Code.{code_of}
 use Rattle.gillacorn.specs.declared.headers.HeaderAnswer.{HeaderAnswer}
@@ -22,24 +22,24 @@ header_answer t = record { code = code_of t; header = header_or0 t }
 abbrev pub flags_of : ℕ → Flags
 flags_of x =
     record {
-      executable = has IMAGE_SCN_CNT_CODE x;
-      initialized_data = has IMAGE_SCN_CNT_INITIALIZED_DATA x;
-      uninitialized_data = has IMAGE_SCN_CNT_UNINITIALIZED_DATA x;
-      other = has IMAGE_SCN_LNK_OTHER x;
-      info = has IMAGE_SCN_LNK_INFO x;
-      remove = has IMAGE_SCN_LNK_REMOVE x;
-      comdat = has IMAGE_SCN_LNK_COMDAT x;
-      defer_speculative_exceptions = has IMAGE_SCN_NO_DEFER_SPEC_EXC x;
-      global_pointer_relative = has IMAGE_SCN_GPREL x;
-      purgeable = has IMAGE_SCN_MEM_PURGEABLE x;
-      locked = has IMAGE_SCN_MEM_LOCKED x;
-      preload = has IMAGE_SCN_MEM_PRELOAD x;
-      lnk_nreloc_ovfl = has IMAGE_SCN_LNK_NRELOC_OVFL x;
-      discardable = has IMAGE_SCN_MEM_DISCARDABLE x;
-      not_cached = has IMAGE_SCN_MEM_NOT_CACHED x;
-      not_paged = has IMAGE_SCN_MEM_NOT_PAGED x;
-      shared = has IMAGE_SCN_MEM_SHARED x;
-      execute = has IMAGE_SCN_MEM_EXECUTE x;
-      read = has IMAGE_SCN_MEM_READ x;
-      write = has IMAGE_SCN_MEM_WRITE x;
+      executable = has image_scn_cnt_code x;
+      initialized_data = has image_scn_cnt_initialized_data x;
+      uninitialized_data = has image_scn_cnt_uninitialized_data x;
+      other = has image_scn_lnk_other x;
+      info = has image_scn_lnk_info x;
+      remove = has image_scn_lnk_remove x;
+      comdat = has image_scn_lnk_comdat x;
+      defer_speculative_exceptions = has image_scn_no_defer_spec_exc x;
+      global_pointer_relative = has image_scn_gprel x;
+      purgeable = has image_scn_mem_purgeable x;
+      locked = has image_scn_mem_locked x;
+      preload = has image_scn_mem_preload x;
+      lnk_nreloc_ovfl = has image_scn_lnk_nreloc_ovfl x;
+      discardable = has image_scn_mem_discardable x;
+      not_cached = has image_scn_mem_not_cached x;
+      not_paged = has image_scn_mem_not_paged x;
+      shared = has image_scn_mem_shared x;
+      execute = has image_scn_mem_execute x;
+      read = has image_scn_mem_read x;
+      write = has image_scn_mem_write x;
     }
