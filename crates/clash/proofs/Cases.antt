@@ -8,11 +8,11 @@ use mathlib.Core.List.{List, [], ◌∷◌, ◌++◌, map}
 use mathlib.Core.Option.{Option, none, some}
 use Rattle.lent.specs.Words.{or_else, put}
 use Rattle.lent.specs.Le.{le_at}
-use Rattle.lent.specs.Paper.{Told, value, nothing, refused, and_then}
+use Rattle.lent.specs.Paper.{Told, value, and_then}
 use Rattle.lent.specs.Table.{listed, shape_fault}
 use Rattle.lent.specs.Order.{rising_after, rising, table_fault, last_at}
 use Rattle.lent.specs.Room.{room_for}
-use Rattle.omap.specs.Records.{records, holder_of, moved, single}
+use Rattle.omap.specs.Records.{records, moved, single}
 use Rattle.omap.specs.Lookup.{lookup_spec}
 use Rattle.omap.specs.Window.{next_of, piece_of, pieces}
 use Rattle.omap.specs.Output.{beside_start, fits, all_fit, sum_fault, window_fault, flat, window_spec, window_out}

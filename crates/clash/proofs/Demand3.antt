@@ -1,7 +1,7 @@
 -- Demand 3, in one statement (specs/Demand): for every table that is not refused 1, 2, 3 and every window that is not
 -- refused 4.
 -- Assumes nothing.
-use mathlib.Core.Path.{◌≡◌, refl, sym, ap, ◌∙◌}
+use mathlib.Core.Path.{◌≡◌, ap}
 use mathlib.Core.Logic.{⊎_elim}
 use Prim.Native.Nat.{ℕ, ◌≤◌, ◌<◌}
 use native.Mathlib.Omega.{arith}
@@ -12,8 +12,8 @@ use Rattle.lent.specs.Paper.{Told, value, nothing, refused}
 use Rattle.omap.specs.Records.{records, single}
 use Rattle.omap.specs.Lookup.{lookup_spec, value_of, looked_up}
 use Rattle.omap.specs.Output.{window_fault}
-use Rattle.clash.specs.Clash.{Pair, one, clash_spec, back_spec}
-use Rattle.clash.specs.Demand.{Source, Clash, LeastClash, Reported, Shares, Demand3}
+use Rattle.clash.specs.Clash.{clash_spec}
+use Rattle.clash.specs.Demand.{Source, Clash, Reported, Demand3}
 use Rattle.clash.proofs.Answered as answered
 
 value-is : (o : Told ℕ) (t : ℕ) → value_of o ≡ some t → o ≡ value t

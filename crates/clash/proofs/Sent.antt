@@ -14,7 +14,7 @@ use Rattle.lent.specs.Words.{put}
 use Rattle.lent.specs.Order.{rising_after, rising, last_at}
 use Rattle.lent.proofs.Rising.{after-rising}
 use Rattle.lent.proofs.Logic.{lt-or-le}
-use Rattle.omap.specs.Records.{Entry, sources, holder_of, moved, single}
+use Rattle.omap.specs.Records.{Entry, sources, moved, single}
 use Rattle.omap.specs.Window.{next_of, pieces}
 use Rattle.omap.specs.declared.walk.Piece.{Piece}
 use Rattle.omap.specs.Expand.{up_from, range}

@@ -1,0 +1,43 @@
+use Prim.Native.Nat.{◌+◌, ◌*◌}
+use native.Mathlib.Omega.{arith}
+use Rattle.lent.proofs.Field.{below}
+use Rattle.clash.proofs.Later.{some-part, pass-zero, pass-low, hit-first, hit_later}
+use Rattle.clash.proofs.better.Goals as goal
+
+pub returns-then-target-eq0 : goal.returns-then-target-eq0
+returns-then-target-eq0 c =
+    pass-zero (c.args.table.now) (c.args.b) (c.args.last) c.requires.1.0 c.requires.0 (c.shared_slice_known-1.given) (c.args.i) c.requires.1.1.0
+    c.args.from c.args.best (omega arith) (omega arith)
+
+pub overflow_sub-size : goal.overflow_sub-size
+overflow_sub-size c =
+    omega (
+      arith,
+      c.u32_at-source.ensures,
+      c.end_in.ensures,
+      some-part (c.args.table.now) (c.args.b) (c.args.last) c.requires.1.0
+          c.requires.0 (c.shared_slice_known-1.given) (c.args.i) c.requires.1.1.0,
+    )
+
+pub overflow_add-target : goal.overflow_add-target
+overflow_add-target c =
+    omega (arith, below 4 (c.args.table.now) (8 * c.args.i + 4) (c.shared_slice_known-1.given))
+
+pub returns-then-target-size : goal.returns-then-target-size
+returns-then-target-size c =
+    pass-low (c.args.table.now) (c.args.b) (c.args.last) c.requires.1.0 c.requires.0 (c.shared_slice_known-1.given) (c.args.i) c.requires.1.1.0
+    c.args.from c.args.best (omega arith) (omega arith)
+    (omega (arith, c.end_in.ensures, c.u32_at-source.ensures))
+
+pub returns-then-target-from : goal.returns-then-target-from
+returns-then-target-from c =
+    rw (c.u32_at-source.ensures, c.requires.1.1.1.1.0)
+    (hit-first (c.args.table.now) (c.args.b) (c.args.last) c.requires.1.0 c.requires.0 (c.shared_slice_known-1.given) (c.args.i) c.requires.1.1.0
+    c.args.from c.args.best (omega arith) (omega arith) (omega arith)
+    (omega (arith, c.end_in.ensures, c.u32_at-source.ensures)))
+
+pub returns : goal.returns
+returns c =
+    rw (c.u32_at-source.ensures, c.requires.1.1.1.1.0)
+    (hit_later (c.args.table.now) (c.args.b) (c.args.last) c.requires.1.0 c.requires.0 (c.shared_slice_known-1.given) (c.args.i) c.requires.1.1.0
+    c.args.from c.args.best (omega arith) (omega arith) (omega arith) (omega arith))

@@ -1,0 +1,33 @@
+use mathlib.Core.Path.{sym, ap, ◌∙◌}
+use mathlib.Core.Bool.{true}
+use native.Mathlib.Omega.{arith}
+use Rattle.lent.specs.Paper.{number}
+use Rattle.omap.specs.Output.{told_counted}
+use Rattle.omap.proofs.Outputs.{was-counted, was-refused}
+use Rattle.clash.proofs.Answers.{clash-refused, clash-given}
+use Rattle.clash.proofs.clash.Goals as goal
+
+pub least_pair-requires : goal.least_pair-requires
+least_pair-requires c =
+    ((was-counted true c.args.table.now c.args.a c.args.b c.in-Pieces.field-0 (sym (ap told_counted c.in-Pieces.is) ∙ c.count-counted.ensures))).order
+
+pub returns-in-Refused : goal.returns-in-Refused
+returns-in-Refused c =
+    let a = c.args in
+    let why = number c.in-Refused.why in
+    clash-refused a.table.now a.a a.b why
+    (was-refused true a.table.now a.a a.b why
+    (sym (ap told_counted c.in-Refused.is) ∙ c.count-counted.ensures))
+
+pub returns-in-TooLarge : goal.returns-in-TooLarge
+returns-in-TooLarge c =
+    let a = c.args in
+    clash-refused a.table.now a.a a.b 4
+    (was-refused true a.table.now a.a a.b 4
+    (sym (ap told_counted c.in-TooLarge.is) ∙ c.count-counted.ensures))
+
+pub returns-in-Pieces : goal.returns-in-Pieces
+returns-in-Pieces c =
+    let a = c.args in
+    c.least_pair.ensures ∙ clash-given a.table.now a.a a.b ((was-counted true c.args.table.now c.args.a c.args.b c.in-Pieces.field-0 (sym (ap told_counted c.in-Pieces.is) ∙ c.count-counted.ensures))).order ((was-counted true c.args.table.now c.args.a c.args.b c.in-Pieces.field-0 (sym (ap told_counted c.in-Pieces.is) ∙ c.count-counted.ensures))).faultless
+    (omega arith)
