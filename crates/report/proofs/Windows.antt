@@ -9,7 +9,7 @@ use mathlib.Core.Option.{Option, none, some}
 use lib.ListN.{length, drop, get_or, take, length-append}
 use lib.Seq.{drop-cons, take_at, length-take-le}
 use lib.Dec.{leb}
-use Rattle.lent.specs.Room.{Written, counted, refused_as, refused_for, room_for, unless_fault}
+use Rattle.lent.specs.Room.{Written, counted, refused_for, room_for, unless_fault}
 use Rattle.lent.specs.Words.{put, ascii}
 use borrow.Author.Tests.{le-leb}
 use Rattle.lent.proofs.Place.{length-listed}
