@@ -1,8 +1,3 @@
-pub mod Words
-pub mod Locals
-pub mod Calling
-pub mod Hand
-pub mod Lending
 pub mod Planning
 pub mod Writing
 pub mod Listing
