@@ -1,11 +1,11 @@
 // Standard input and output for the programs: an input is taken whole or not at all, and a read or a
 // write that fails is told on standard error. That a failed read is seen can't be said in a contract,
-// since the C library's own says nothing of what it read; tests/programs.sh tries it.
+// since the runtime's own says nothing of what it read; tests/programs.sh tries it.
 #![tactic(auto)]
 
 ghost use Rattle.streams.specs.Taken.{Held};
 
-use libc::{STDERR_FILENO, STDIN_FILENO, STDOUT_FILENO};
+use std::io::Read;
 
 // What taking an input gives.
 #[derive(Clone, Copy)]
@@ -17,18 +17,16 @@ pub enum Taken {
 }
 
 // Reads standard input until it ends or buf is full.
-pub fn take(buf: &mut [u8]) -> Taken
+pub fn take(rt: &(impl Input + Eprint), buf: &mut [u8]) -> Taken
     ensures { Held result buf.new }
 {
+    let mut input = rt.reader();
     let mut done = 0;
     while done < buf.len() {
-        let part = &mut buf[done..];
-        let got = libc::read(STDIN_FILENO, part);
-        if got < 0 {
-            io::write_all(STDERR_FILENO, b"failed: standard input can't be read\n");
+        let Ok(more) = input.read(&mut buf[done..]) else {
+            let _ = rt.eprintln("failed: standard input can't be read");
             return Taken::Failed;
-        }
-        let more = io::count(got, part);
+        };
         if more == 0 {
             return Taken::Whole(done);
         }
@@ -38,9 +36,9 @@ pub fn take(buf: &mut [u8]) -> Taken
 }
 
 // Writes all of a text to standard output.
-pub fn give(text: &[u8]) {
-    if io::write_all(STDOUT_FILENO, text) {
+pub fn give(rt: &(impl Print + Eprint), text: &[u8]) {
+    if rt.write_all(text).is_ok() {
         return;
     }
-    io::write_all(STDERR_FILENO, b"failed: standard output can't be written\n");
+    let _ = rt.eprintln("failed: standard output can't be written");
 }

@@ -3,14 +3,14 @@
 
 use streams::Taken;
 
-fn main() {
+fn main(rt: HostRuntime) {
     // One byte more than the most that is taken, so that a longer input is seen.
     let mut input = [0u8; 65537];
-    let taken = streams::take(&mut input);
+    let taken = streams::take(&rt, &mut input);
     let Taken::Whole(n) = taken else {
         return;
     };
     let mut out = [0u8; 147456];
     let length = report::window_text(&input[..n], &mut out);
-    streams::give(&out[..length]);
+    streams::give(&rt, &out[..length]);
 }
