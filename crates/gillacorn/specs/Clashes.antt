@@ -1,5 +1,4 @@
 -- What the face shows of a clash and of the way back.
-use Rattle.std.specs.Prelude.{ℕ}
 use Rattle.std.proofs.Math.Option.{Option, none, some}
 use Rattle.lent.specs.Paper.{Told, value, nothing, refused}
 use Rattle.clash.specs.Clash.{Pair, Sources, one, two}
