@@ -15,10 +15,12 @@ mod names;
 mod report;
 mod windows;
 
-ghost use Rattle.std.specs.Prelude.{◌≡◌, length};
+ghost use Rattle.std.specs.Prelude.{◌≡◌, ◌≤◌, length, IfOk};
 
 use comparison::Comparison;
 use report::COUNTS;
+use std::fs::File;
+use std::io::Read;
 
 // A file has fewer bytes than this.
 const MOST: usize = 1048576;
@@ -91,25 +93,39 @@ fn replay(file: &[u8], cases: &mut [u64; COUNTS], agreed: &mut [u64; COUNTS]) ->
     file.len()
 }
 
-fn main() {
-    let descriptor = os::open_read(b"replay.bin");
-    if descriptor < 0 {
-        io::write_all(1, b"no file replay.bin\n");
-        return;
+// Reads a file until it ends or buf is full, and gives the number of bytes.
+fn fill(source: &mut File, buf: &mut [u8]) -> std::io::Result<usize>
+    ensures { IfOk result (λ n. n ≤ length buf.new) }
+{
+    let mut done = 0;
+    while done < buf.len() {
+        let more = source.read(&mut buf[done..])?;
+        if more == 0 {
+            break;
+        }
+        done += more;
     }
+    Ok(done)
+}
+
+fn main(rt: HostRuntime) -> std::io::Result<()> {
+    let Ok(mut source) = File::open(&rt, "replay.bin") else {
+        io::write_all(1, b"no file replay.bin\n");
+        return Ok(());
+    };
     let mut file = buffer();
-    let n = io::read_full(descriptor, &mut file);
-    libc::close(descriptor);
+    let n = fill(&mut source, &mut file)?;
     if n == MOST {
         io::write_all(1, b"the file is too large\n");
-        return;
+        return Ok(());
     }
     let mut cases = [0u64; COUNTS];
     let mut agreed = [0u64; COUNTS];
     let end = replay(&file[..n], &mut cases, &mut agreed);
     if end < n {
         report::bad(end);
-        return;
+        return Ok(());
     }
     report::all(&cases, &agreed);
+    Ok(())
 }
