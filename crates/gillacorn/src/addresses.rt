@@ -10,8 +10,7 @@ ghost use Rattle.gillacorn.specs.Code.{value_answer};
 use crate::code::{ValueAnswer, value_answer};
 use address_map::{PdbInternalRva, PdbInternalSectionOffset, Rva, SectionOffset};
 
-#[unsafe(no_mangle)]
-pub extern "C" fn gillacorn_rva_to_internal_rva<'s>(
+pub fn gillacorn_rva_to_internal_rva<'s>(
     rva: u32,
     has_original: bool,
     original: &'s [u8],
@@ -27,8 +26,7 @@ pub extern "C" fn gillacorn_rva_to_internal_rva<'s>(
     value_answer(Rva(rva).to_internal_rva(has_to_original, to_original))
 }
 
-#[unsafe(no_mangle)]
-pub extern "C" fn gillacorn_internal_rva_to_rva<'s>(
+pub fn gillacorn_internal_rva_to_rva<'s>(
     rva: u32,
     has_original: bool,
     original: &'s [u8],
@@ -44,8 +42,7 @@ pub extern "C" fn gillacorn_internal_rva_to_rva<'s>(
     value_answer(PdbInternalRva(rva).to_rva(has_to_transformed, to_transformed))
 }
 
-#[unsafe(no_mangle)]
-pub extern "C" fn gillacorn_offset_to_rva<'s>(
+pub fn gillacorn_offset_to_rva<'s>(
     section: u16,
     offset: u32,
     has_original: bool,
@@ -69,8 +66,7 @@ pub extern "C" fn gillacorn_offset_to_rva<'s>(
     ))
 }
 
-#[unsafe(no_mangle)]
-pub extern "C" fn gillacorn_offset_to_internal_rva<'s>(
+pub fn gillacorn_offset_to_internal_rva<'s>(
     section: u16,
     offset: u32,
     has_original: bool,
@@ -96,8 +92,7 @@ pub extern "C" fn gillacorn_offset_to_internal_rva<'s>(
     ))
 }
 
-#[unsafe(no_mangle)]
-pub extern "C" fn gillacorn_internal_offset_to_rva<'s>(
+pub fn gillacorn_internal_offset_to_rva<'s>(
     section: u16,
     offset: u32,
     has_original: bool,
@@ -120,8 +115,7 @@ pub extern "C" fn gillacorn_internal_offset_to_rva<'s>(
     ))
 }
 
-#[unsafe(no_mangle)]
-pub extern "C" fn gillacorn_internal_offset_to_internal_rva<'s>(
+pub fn gillacorn_internal_offset_to_internal_rva<'s>(
     section: u16,
     offset: u32,
     has_original: bool,

@@ -109,8 +109,7 @@ fn spans_answer(opened: Opened) -> SpansAnswer
     }
 }
 
-#[unsafe(no_mangle)]
-pub extern "C" fn gillacorn_bundle_read(file: &[u8]) -> SpansAnswer
+pub fn gillacorn_bundle_read(file: &[u8]) -> SpansAnswer
     ensures { result ≡ spans_answer (read_spec file.now) }
 {
     spans_answer(bundle::read(file))
@@ -132,8 +131,7 @@ fn bytes_answer(packed: Packed) -> BytesAnswer
     }
 }
 
-#[unsafe(no_mangle)]
-pub extern "C" fn gillacorn_bundle_write<'s>(
+pub fn gillacorn_bundle_write<'s>(
     has_original_sections: bool,
     original_sections: &'s [u8],
     has_transformed_sections: bool,

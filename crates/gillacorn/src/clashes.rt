@@ -89,15 +89,13 @@ fn sources_answer(back: Back) -> SourcesAnswer
     }
 }
 
-#[unsafe(no_mangle)]
-pub extern "C" fn gillacorn_clash(table: &[u8], a: u32, b: u32) -> PairAnswer
+pub fn gillacorn_clash(table: &[u8], a: u32, b: u32) -> PairAnswer
     ensures { result ≡ pair_answer (clash_spec table.now a b) }
 {
     pair_answer(clash::clash(table, a, b))
 }
 
-#[unsafe(no_mangle)]
-pub extern "C" fn gillacorn_way_back(table: &[u8], a: u32, b: u32, t: u32) -> SourcesAnswer
+pub fn gillacorn_way_back(table: &[u8], a: u32, b: u32, t: u32) -> SourcesAnswer
     ensures { result ≡ sources_answer (back_spec table.now a b t) }
 {
     sources_answer(clash::way_back(table, a, b, t))

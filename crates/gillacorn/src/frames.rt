@@ -232,22 +232,19 @@ fn yes_answer(emptiness: Emptiness) -> ValueAnswer
     }
 }
 
-#[unsafe(no_mangle)]
-pub extern "C" fn gillacorn_old_frame(table: &[u8], place: usize) -> FrameAnswer
+pub fn gillacorn_old_frame(table: &[u8], place: usize) -> FrameAnswer
     ensures { result ≡ frame_answer (old_frame_spec table.now place) }
 {
     frame_answer(framedata::old_frame_at(table, place))
 }
 
-#[unsafe(no_mangle)]
-pub extern "C" fn gillacorn_new_frame(table: &[u8], place: usize) -> FrameAnswer
+pub fn gillacorn_new_frame(table: &[u8], place: usize) -> FrameAnswer
     ensures { result ≡ frame_answer (new_frame_spec table.now place) }
 {
     frame_answer(framedata::new_frame_at(table, place))
 }
 
-#[unsafe(no_mangle)]
-pub extern "C" fn gillacorn_frame_next(
+pub fn gillacorn_frame_next(
     cursor: FrameCursor,
     has_old: bool,
     old_frames: &[u8],
@@ -260,8 +257,7 @@ pub extern "C" fn gillacorn_frame_next(
     frame_step_answer(cursor.step(has_old, old_frames, has_new, new_frames))
 }
 
-#[unsafe(no_mangle)]
-pub extern "C" fn gillacorn_frames_at(
+pub fn gillacorn_frames_at(
     address: u32,
     has_old: bool,
     old_frames: &[u8],
@@ -274,8 +270,7 @@ pub extern "C" fn gillacorn_frames_at(
     frame_cursor_answer(framedata::start_at(address, has_old, old_frames, has_new, new_frames))
 }
 
-#[unsafe(no_mangle)]
-pub extern "C" fn gillacorn_frames_empty(
+pub fn gillacorn_frames_empty(
     has_old: bool,
     old_frames: &[u8],
     has_new: bool,

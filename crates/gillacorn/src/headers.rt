@@ -69,8 +69,7 @@ fn aligned(alignment: Alignment) -> ValueAnswer
     }
 }
 
-#[unsafe(no_mangle)]
-pub extern "C" fn gillacorn_header(table: &[u8], place: usize) -> HeaderAnswer
+pub fn gillacorn_header(table: &[u8], place: usize) -> HeaderAnswer
     ensures { result ≡ header_answer (header_spec table.now place) }
 {
     let headed = pe::header_at(table, place);
@@ -82,15 +81,13 @@ pub extern "C" fn gillacorn_header(table: &[u8], place: usize) -> HeaderAnswer
     }
 }
 
-#[unsafe(no_mangle)]
-pub extern "C" fn gillacorn_name_length(table: &[u8], number: u16) -> usize
+pub fn gillacorn_name_length(table: &[u8], number: u16) -> usize
     ensures { result ≡ length (name_spec table.now number) }
 {
     pe::name_length(table, number)
 }
 
-#[unsafe(no_mangle)]
-pub extern "C" fn gillacorn_characteristics(characteristics: u32) -> Flags
+pub fn gillacorn_characteristics(characteristics: u32) -> Flags
     ensures { result ≡ flags_of characteristics }
 {
     let c = SectionCharacteristics(characteristics);
@@ -118,8 +115,7 @@ pub extern "C" fn gillacorn_characteristics(characteristics: u32) -> Flags
     }
 }
 
-#[unsafe(no_mangle)]
-pub extern "C" fn gillacorn_alignment(characteristics: u32) -> ValueAnswer
+pub fn gillacorn_alignment(characteristics: u32) -> ValueAnswer
     ensures { result ≡ value_answer (alignment_spec characteristics) }
 {
     aligned(SectionCharacteristics(characteristics).alignment())

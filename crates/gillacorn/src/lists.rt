@@ -7,8 +7,7 @@ ghost use Rattle.gillacorn.specs.Windows.{pieces_answer};
 use crate::windows::{PiecesAnswer, pieces_answer};
 use ranges::Piece;
 
-#[unsafe(no_mangle)]
-pub extern "C" fn gillacorn_list(
+pub fn gillacorn_list(
     present: bool,
     table: &[u8],
     a: u32,

@@ -48,15 +48,13 @@ fn record_answer(recorded: Recorded) -> RecordAnswer
     }
 }
 
-#[unsafe(no_mangle)]
-pub extern "C" fn gillacorn_record_at(table: &[u8], place: usize) -> RecordAnswer
+pub fn gillacorn_record_at(table: &[u8], place: usize) -> RecordAnswer
     ensures { result ≡ record_answer (record_spec table.now place) }
 {
     record_answer(omap::record_at(table, place))
 }
 
-#[unsafe(no_mangle)]
-pub extern "C" fn gillacorn_lookup(present: bool, table: &[u8], address: u32) -> ValueAnswer
+pub fn gillacorn_lookup(present: bool, table: &[u8], address: u32) -> ValueAnswer
     ensures { result ≡ value_answer (lookup_spec present table.now address) }
 {
     value_answer(omap::lookup(present, table, address))
@@ -89,8 +87,7 @@ fn quick_answer(quick: Quick) -> QuickAnswer
     }
 }
 
-#[unsafe(no_mangle)]
-pub extern "C" fn gillacorn_quick_lookup(present: bool, table: &[u8], address: u32) -> QuickAnswer
+pub fn gillacorn_quick_lookup(present: bool, table: &[u8], address: u32) -> QuickAnswer
     ensures { result ≡ quick_answer (quick_spec present table.now address) }
 {
     quick_answer(omap::quick_lookup(present, table, address))

@@ -9,8 +9,7 @@ ghost use Rattle.gillacorn.specs.Sections.{extent_by, offset_answer};
 use crate::sections::{OffsetAnswer, extent_by, offset_answer};
 use address_map::{PdbInternalRva, PdbInternalSectionOffset, Rva, SectionOffset};
 
-#[unsafe(no_mangle)]
-pub extern "C" fn gillacorn_rva_to_section_offset_by<'s>(
+pub fn gillacorn_rva_to_section_offset_by<'s>(
     by_raw_size: bool,
     rva: u32,
     has_original: bool,
@@ -34,8 +33,7 @@ pub extern "C" fn gillacorn_rva_to_section_offset_by<'s>(
     ))
 }
 
-#[unsafe(no_mangle)]
-pub extern "C" fn gillacorn_rva_to_internal_offset_by<'s>(
+pub fn gillacorn_rva_to_internal_offset_by<'s>(
     by_raw_size: bool,
     rva: u32,
     has_original: bool,
@@ -59,8 +57,7 @@ pub extern "C" fn gillacorn_rva_to_internal_offset_by<'s>(
     ))
 }
 
-#[unsafe(no_mangle)]
-pub extern "C" fn gillacorn_internal_rva_to_section_offset_by<'s>(
+pub fn gillacorn_internal_rva_to_section_offset_by<'s>(
     by_raw_size: bool,
     rva: u32,
     has_original: bool,
@@ -87,8 +84,7 @@ pub extern "C" fn gillacorn_internal_rva_to_section_offset_by<'s>(
     ))
 }
 
-#[unsafe(no_mangle)]
-pub extern "C" fn gillacorn_internal_rva_to_internal_offset_by<'s>(
+pub fn gillacorn_internal_rva_to_internal_offset_by<'s>(
     by_raw_size: bool,
     rva: u32,
     has_original: bool,
@@ -106,8 +102,7 @@ pub extern "C" fn gillacorn_internal_rva_to_internal_offset_by<'s>(
     offset_answer(PdbInternalRva(rva).to_internal_offset(by, has_original, original))
 }
 
-#[unsafe(no_mangle)]
-pub extern "C" fn gillacorn_offset_to_internal_offset_by<'s>(
+pub fn gillacorn_offset_to_internal_offset_by<'s>(
     by_raw_size: bool,
     section: u16,
     offset: u32,
@@ -135,8 +130,7 @@ pub extern "C" fn gillacorn_offset_to_internal_offset_by<'s>(
     ))
 }
 
-#[unsafe(no_mangle)]
-pub extern "C" fn gillacorn_internal_offset_to_section_offset_by<'s>(
+pub fn gillacorn_internal_offset_to_section_offset_by<'s>(
     by_raw_size: bool,
     section: u16,
     offset: u32,

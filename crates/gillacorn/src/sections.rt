@@ -55,24 +55,14 @@ pub fn extent_by(by_raw_size: bool) -> ExtentBy
     ExtentBy::MemorySize
 }
 
-#[unsafe(no_mangle)]
-pub extern "C" fn gillacorn_section_offset_by(
-    by_raw_size: bool,
-    sections: &[u8],
-    address: u32,
-) -> OffsetAnswer
+pub fn gillacorn_section_offset_by(by_raw_size: bool, sections: &[u8], address: u32) -> OffsetAnswer
     ensures { result ≡ offset_answer (section_spec (extent_by by_raw_size) sections.now address) }
 {
     let by = extent_by(by_raw_size);
     offset_answer(get_section_offset(by, sections, address))
 }
 
-#[unsafe(no_mangle)]
-pub extern "C" fn gillacorn_virtual_address(
-    sections: &[u8],
-    section: u16,
-    offset: u32,
-) -> ValueAnswer
+pub fn gillacorn_virtual_address(sections: &[u8], section: u16, offset: u32) -> ValueAnswer
     ensures { result ≡ value_answer (address_spec sections.now (in_section section offset)) }
 {
     value_answer(get_virtual_address(sections, section, offset))

@@ -106,8 +106,7 @@ fn step_answer(step: Step) -> StepAnswer
     }
 }
 
-#[unsafe(no_mangle)]
-pub extern "C" fn gillacorn_window(
+pub fn gillacorn_window(
     present: bool,
     table: &[u8],
     a: u32,
@@ -120,20 +119,13 @@ pub extern "C" fn gillacorn_window(
     pieces_answer(omap::windows::window(present, table, a, b, out))
 }
 
-#[unsafe(no_mangle)]
-pub extern "C" fn gillacorn_cursor_start(
-    present: bool,
-    table: &[u8],
-    a: u32,
-    b: u32,
-) -> CursorAnswer
+pub fn gillacorn_cursor_start(present: bool, table: &[u8], a: u32, b: u32) -> CursorAnswer
     ensures { result ≡ cursor_answer (start_spec present table.now a b) }
 {
     cursor_answer(Cursor::start(present, table, a, b))
 }
 
-#[unsafe(no_mangle)]
-pub extern "C" fn gillacorn_cursor_step(cursor: Cursor, present: bool, table: &[u8]) -> StepAnswer
+pub fn gillacorn_cursor_step(cursor: Cursor, present: bool, table: &[u8]) -> StepAnswer
     ensures { result ≡ step_answer (step_spec present table.now cursor) }
 {
     step_answer(cursor.step(present, table))
