@@ -30,19 +30,26 @@ ready() { # [c|x86-64|native]
     export GILLACORN_LIB
 }
 
+# A file of the crates' sources that is newer than what was made of them; what `rt` keeps in out/ is none.
+newer() { # what was made
+    find "$repository/crates" "$repository/crates.txt" -name out -prune -o -type f -newer "$1" -print -quit
+}
+
 # target/staticlib/libgillacorn.a takes a proof to make: once for all scripts, until a source is newer.
 archive() {
     (
         cd "$repository"
         made=target/staticlib/libgillacorn.a
-        if [ -f "$made" ] && [ -z "$(find crates crates.txt -newer "$made" -print -quit)" ]; then
+        if [ -f "$made" ] && [ -z "$(newer "$made")" ]; then
             exit 0
         fi
         mkdir -p target
-        rt staticlib gillacorn >target/staticlib.log 2>&1 || {
+        (cd crates/gillacorn_c && rt lib) >target/staticlib.log 2>&1 || {
             cat target/staticlib.log >&2
             exit 1
         }
+        mkdir -p target/staticlib
+        cp crates/gillacorn_c/out/libgillacorn_c.a "$made"
     ) || exit $?
 }
 

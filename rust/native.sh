@@ -23,7 +23,7 @@ missing() {
 
 [ "$machine" = aarch64 ] || missing "an archive for $machine (known: aarch64; on x86-64 the normal one is native)"
 kit=$(rt doc 2>/dev/null) || missing "the Rattle kit (rt on the path)"
-kit=${kit%/docs/*}
+kit=${kit%/*}
 tools=$kit/on/$machine/toolchain
 clang=$tools/bin/clang
 [ -x "$clang" ] || missing "the kit's clang for $machine"
@@ -65,8 +65,8 @@ done
 exec "$clang" "\$@"
 END
     chmod +x "$own/toolchain/bin/clang"
-    # It proves, and writes target/staticlib/libgillacorn.a, as every `rt staticlib gillacorn` does.
-    (cd "$repository" && RATTLE_HOME=$made/kit rt staticlib gillacorn) >"$made/staticlib.log" 2>&1 || {
+    # It proves, and makes the archive, as `archive` of lib.sh does.
+    (cd "$repository/crates/gillacorn_c" && RATTLE_HOME=$made/kit rt lib) >"$made/staticlib.log" 2>&1 || {
         cat "$made/staticlib.log" >&2
         exit 1
     }

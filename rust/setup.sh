@@ -36,7 +36,8 @@ fi
 # The kit, where there is one: its clang is the other side's compiler, and it has an emulator.
 tools=
 if kit=$(rt doc 2>/dev/null); then
-    tools=${kit%/docs/*}/on/$(uname -m)/toolchain
+    tools=${kit%/*}/toolchain
+    [ ! -d "${kit%/*}/on/$(uname -m)" ] || tools=${kit%/*}/on/$(uname -m)/toolchain
 fi
 
 # ---- c: compilers for x86-64, and what runs its programs

@@ -1,44 +1,43 @@
 #!/usr/bin/env python3
-"""Sorts the must-fail edits by what the prover names first, after `rt must-fail` or `rt ci`.
+"""Sorts the must-fail edits by what the prover names first: rt must-fail | python3 tests/edits.py
 
-An edit tries a promise if the first thing refused is what a function returns (`returns`), what it leaves in lent memory
-(`out-..`), or a loop's invariant (`loop-..`); it tries none if that is a bound, a callee's `requires` or a need that is
-gone. Prints a table of counts, and each edit that tries no promise; ends with 1 if there is one.
+It reads what `rt must-fail` or `rt ci` prints. An edit tries a promise if the first thing refused is what a function
+returns (`returns`), what it leaves in lent memory (`out-..`), or a loop's invariant (`loop-..`); it tries none if that
+is a bound, a callee's `requires` or a need that is gone. Prints a table of counts, and each edit that tries no promise;
+ends with 1 if there is one, or an edit that was not refused.
 """
-import pathlib
 import re
 import sys
 
+TOLD = re.compile(r"must-fail (\S+)/(\S+)\.edit: (.*)")
 PROMISE = re.compile(r"(returns|out|loop)(-|\b)")
-NAMED = re.compile(r"(?:error: |`search` in the proof that rattle made: \S+ )`([^`]+)`")
+NAMED = re.compile(r"error: `([^`]+)`|\(`([^`]+)`\)|`search` did not prove `([^`]+)`")
 
 
-def first_named(log):
-    """The name that the first error of a log gives, or nothing."""
-    for line in log.read_text(errors="replace").splitlines():
-        found = NAMED.search(line)
-        if found:
-            return found.group(1)
-    return ""
+def first_named(told):
+    """The name that the first error gives, or nothing."""
+    found = NAMED.search(told)
+    return next(name for name in found.groups() if name) if found else ""
 
 
 def main():
-    root = pathlib.Path("target/must-fail")
-    logs = sorted(root.glob("*/*/.log"))
-    if not logs:
-        sys.exit("tests/edits.py: no logs in target/must-fail: run `rt must-fail` first")
     crates, idle = {}, []
-    for log in logs:
-        crate, edit = log.parts[-3], log.parts[-2]
-        name = first_named(log)
-        tried = bool(PROMISE.match(name))
+    for line in sys.stdin:
+        told = TOLD.search(line)
+        if not told:
+            continue
+        crate, edit, said = told.groups()
+        name = first_named(said)
+        tried = said.startswith("refused") and bool(PROMISE.match(name))
         counts = crates.setdefault(crate, [0, 0])
         counts[not tried] += 1
         if not tried:
-            idle.append(f"{crate}/{edit}: {name or 'no name'}")
+            idle.append(f"{crate}/{edit}: {said}")
+    if not crates:
+        sys.exit("tests/edits.py: no edits in what was given: rt must-fail | python3 tests/edits.py")
     print("| crate | edits that try a promise | others |")
     print("|---|---:|---:|")
-    for crate, (tried, others) in crates.items():
+    for crate, (tried, others) in sorted(crates.items()):
         print(f"| {crate} | {tried} | {others} |")
     print(f"| all | {sum(c[0] for c in crates.values())} | {sum(c[1] for c in crates.values())} |")
     for line in idle:

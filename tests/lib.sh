@@ -44,12 +44,7 @@ prints() { # program, what it is, then the lines expected; the input is on stand
 
 # A proved program without `./run` before it.
 by_itself() { # program
-    local tools emulator
-    tools=$(rt doc)
-    tools=${tools%/docs/*}/on/$(uname -m)/toolchain
-    emulator=$tools/bin/qemu-x86_64
-    [ -x "$emulator" ] || emulator=
-    ${emulator:+"$emulator"} "$tools/lib/ld-linux-x86-64.so.2" --library-path "$tools/lib" "$here/target/bin/$1"
+    "$here/crates/$1/out/$1"
 }
 
 ended() { # what was tried

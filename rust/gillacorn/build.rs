@@ -23,7 +23,7 @@ fn main() {
     println!("cargo:rerun-if-changed={}", archive.display());
     if !archive.is_file() {
         stop(&format!(
-            "there is no archive {}: make it with `rt staticlib gillacorn` in the repository, or \
+            "there is no archive {}: make it with `./gillacorn --help` in the repository, or \
              set GILLACORN_LIB to a folder that has it",
             archive.display()
         ));
