@@ -12,7 +12,7 @@ use Rattle.lent.specs.Paper.{Told, value, nothing, refused, and_then}
 use Rattle.lent.specs.Table.{listed, shape_fault}
 use Rattle.lent.specs.Order.{rising_after, rising, table_fault, last_at}
 use Rattle.lent.specs.Room.{Written, counted, refused_as, refused_for, room_for}
-use Rattle.omap.specs.Records.{records, holder_of, moved, single}
+use Rattle.omap.specs.Records.{records, moved, single}
 use Rattle.omap.specs.Lookup.{lookup_spec}
 use Rattle.omap.specs.Window.{next_of, piece_of, pieces, window_pieces}
 use Rattle.omap.specs.Output.{beside_start, fits, all_fit, sum_fault, window_fault, flat}

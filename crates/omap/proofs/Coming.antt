@@ -1,6 +1,6 @@
 -- The pieces that a cursor has still to yield: each step yields the first of them.
 -- Assumes nothing.
-use mathlib.Core.Path.{◌≡◌, refl, sym, ap}
+use mathlib.Core.Path.{◌≡◌, refl, ap}
 use mathlib.Core.Logic.{⊎_elim}
 use Prim.Native.Nat.{ℕ, zero, suc, ◌+◌, ◌/◌, ◌≤◌, ◌<◌, max, min}
 use native.Mathlib.Omega.{arith}
@@ -9,7 +9,7 @@ use mathlib.Core.Bool.{Bool, true, false, cond, ◌&&◌}
 use mathlib.Core.List.{List, [], ◌∷◌}
 use mathlib.Core.Option.{none, some}
 use lib.ListN.{length}
-use borrow.Author.Tests.{lt-ltb, le-leb, ne_eqb}
+use borrow.Author.Tests.{lt-ltb, le-leb}
 use Rattle.lent.specs.Words.{put}
 use Rattle.lent.specs.Paper.{Told, value, nothing, refused, unless, and_then}
 use Rattle.lent.specs.Table.{if_present, omap_shape}

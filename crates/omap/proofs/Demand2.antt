@@ -2,7 +2,7 @@
 -- first n entries of its output, written out in order, are the values that the single lookup gives for the addresses of
 -- the window, holes left out.
 -- Assumes nothing.
-use mathlib.Core.Path.{◌≡◌, refl, sym, ap, ◌∙◌}
+use mathlib.Core.Path.{◌≡◌, refl, ap, ◌∙◌}
 use Prim.Native.Nat.{ℕ, zero, suc, ◌+◌, ◌-◌, ◌/◌, ◌≤◌, ◌<◌}
 use native.Mathlib.Omega.{arith}
 use mathlib.Core.Bool.{Bool, true, false, cond, ◌&&◌}
@@ -18,8 +18,8 @@ use Rattle.lent.specs.Room.{Written, counted, refused_for, room_for, unless_faul
 use Rattle.lent.proofs.Logic.{and_left, and_right}
 use Rattle.omap.specs.Records.{records, single}
 use Rattle.omap.specs.Lookup.{lookup_spec, value_of, looked_up}
-use Rattle.omap.specs.Window.{Piece, pieces, window_pieces}
-use Rattle.omap.specs.Output.{beside_start, fits, all_fit, sum_fault, window_fault, flat}
+use Rattle.omap.specs.Window.{Piece, pieces}
+use Rattle.omap.specs.Output.{beside_start, all_fit, sum_fault, window_fault, flat}
 use Rattle.omap.specs.Output.{window_spec, window_out}
 use Rattle.omap.specs.Expand.{up_from, range, map_maybe, expand, expand_entries}
 use Rattle.omap.proofs.Pieces.{fits-target, first_fits, others-fit}

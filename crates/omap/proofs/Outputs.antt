@@ -8,9 +8,8 @@ use mathlib.Core.List.{List, [], ◌∷◌}
 use mathlib.Core.Option.{Option, none, some}
 use lib.ListN.{length}
 use borrow.Author.Tests.{le-leb, lt-leb}
-use Rattle.lent.specs.Order.{omap_fault}
 use Rattle.lent.specs.Paper.{Told, value, refused, first_fault, unless}
-use Rattle.lent.specs.Room.{Written, counted, refused_as, refused_for, room_for, unless_fault, out_after}
+use Rattle.lent.specs.Room.{Written, counted, refused_as, refused_for, room_for, out_after}
 use Rattle.omap.specs.Window.{Piece, window_pieces}
 use Rattle.omap.specs.Output.{all_fit, sum_fault, marked_fault, window_fault, count_spec, flat}
 use Rattle.omap.specs.Output.{window_spec, window_out}

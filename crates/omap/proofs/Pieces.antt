@@ -1,21 +1,19 @@
 -- The piece of a record, and the pieces of a table one record at a time.
 -- Assumes nothing.
-use mathlib.Core.Path.{◌≡◌, refl, ap}
+use mathlib.Core.Path.{◌≡◌, refl}
 use mathlib.Core.Logic.{⊎_elim}
 use native.Mathlib.Nat.{eq-zero-or-pos}
-use Prim.Native.Nat.{ℕ, zero, suc, ◌+◌, ◌-◌, ◌*◌, ◌/◌, ◌^◌, ◌≤◌, ◌<◌, max, min}
+use Prim.Native.Nat.{ℕ, zero, suc, ◌+◌, ◌-◌, ◌/◌, ◌≤◌, ◌<◌, max, min}
 use native.Mathlib.Omega.{arith}
-use mathlib.Core.Bool.{true, false, and-false, ◌&&◌}
+use mathlib.Core.Bool.{true, false, and-false}
 use mathlib.Core.List.{List, [], ◌∷◌}
 use mathlib.Core.Option.{none, some}
 use lib.ListN.{length}
 use lib.Dec.{ltb}
-use borrow.Author.Tests.{lt-ltb, le-ltb, le-leb, lt-leb, eq-eqb, ne_eqb, leb-true}
+use borrow.Author.Tests.{lt-ltb, le-ltb, le-leb, eq-eqb, ne_eqb, leb-true}
 use Rattle.lent.specs.Words.{put}
-use Rattle.lent.specs.Le.{le_at}
 use Rattle.lent.specs.Table.{listed}
 use Rattle.lent.proofs.Place.{listed-step, listed-end, listed-all}
-use Rattle.lent.proofs.Field.{Bytes, below}
 use Rattle.lent.proofs.Logic.{lt-or-le, and_left, and_right}
 use Rattle.omap.specs.Records.{Entry, entry_at, records, rest}
 use Rattle.omap.specs.Window.{Piece, next_of, piece_of, pieces}

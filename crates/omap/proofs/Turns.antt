@@ -4,17 +4,16 @@ use mathlib.Core.Path.{◌≡◌, refl, sym, ap, ◌∙◌}
 use mathlib.Core.Logic.{⊎_elim}
 use Prim.Native.Nat.{ℕ, ◌+◌, ◌-◌, ◌/◌, ◌≤◌, ◌<◌, min}
 use native.Mathlib.Omega.{arith}
-use mathlib.Core.Bool.{Bool, true, false, cond, not, ◌&&◌, and-false}
+use mathlib.Core.Bool.{Bool, true, false, cond, and-false}
 use mathlib.Core.List.{List, [], ◌∷◌}
 use mathlib.Core.Option.{none, some}
 use lib.ListN.{length}
-use lib.Dec.{ltb, leb, eqb}
+use lib.Dec.{ltb, leb}
 use borrow.Author.Tests.{lt-ltb, le-ltb, le-leb, lt-leb, eq-eqb, ne_eqb}
 use Rattle.lent.specs.Table.{if_present, omap_shape}
 use Rattle.lent.proofs.Logic.{lt-or-le}
 use Rattle.lent.proofs.Place.{listed-step, listed-end}
 use Rattle.omap.specs.Records.{Entry, entry_at, rest}
-use Rattle.omap.specs.Window.{Piece}
 use Rattle.omap.specs.Output.{beside_start, fits}
 use Rattle.omap.specs.Turn.{Turn, pulled, turn_with, end_of, turns}
 use Rattle.omap.specs.Step.{Stepped, piece, done, refused_at, translated, piece_or, first_piece, step_spec}

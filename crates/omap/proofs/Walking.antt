@@ -5,7 +5,7 @@ use mathlib.Core.Logic.{⊎_elim}
 use Prim.Native.Nat.{ℕ, zero, suc, ◌+◌, ◌-◌, ◌*◌, ◌/◌, ◌≤◌, ◌<◌, max, min}
 use native.Mathlib.Omega.{arith}
 use mathlib.Core.Bool.{Bool, true, false}
-use mathlib.Core.List.{List, [], ◌∷◌}
+use mathlib.Core.List.{List, []}
 use mathlib.Core.Option.{none, some}
 use lib.ListN.{length}
 use Rattle.lent.specs.Words.{put}
@@ -14,7 +14,7 @@ use Rattle.lent.specs.Order.{key_at, keys, rising, FirstAbove}
 use Rattle.lent.proofs.Field.{Bytes, below}
 use Rattle.lent.proofs.Logic.{lt-or-le}
 use Rattle.lent.proofs.Rising.{in_place}
-use Rattle.omap.specs.Records.{Entry, entry_at, records, rest}
+use Rattle.omap.specs.Records.{entry_at, rest}
 use Rattle.omap.specs.Window.{Piece, next_of, pieces, itself}
 use Rattle.omap.specs.Walk.{part_at, left, InOrder, Below, Bounded, Begins, Found, NextIs}
 use Rattle.omap.specs.declared.walk.Next.{Next}

@@ -1,5 +1,5 @@
 -- What the cursor's own functions hand each other. No public promise cites this file.
-use Rattle.std.specs.Prelude.{ℕ, ◌+◌, cond, List, [], ◌∷◌, leb}
+use Rattle.std.specs.Prelude.{◌+◌, cond, List, [], ◌∷◌, leb}
 use Rattle.omap.specs.Records.{Entry}
 use Rattle.omap.specs.Output.{beside_start, fits}
 use Rattle.omap.specs.Turn.{Turn, turn_with, end_of}

@@ -2,7 +2,6 @@ use mathlib.Core.Path.{sym, ap, ◌∙◌}
 use native.Mathlib.Omega.{arith}
 use Rattle.omap.specs.Turned.{turned_by}
 use Rattle.omap.proofs.Turns.{next-record, next-end}
-use borrow.Author.Rules.{rules}
 use Rattle.omap.proofs.cursor.pull.Goals as goal
 
 pub returns-then-place-table : goal.returns-then-place-table

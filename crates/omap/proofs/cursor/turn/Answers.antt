@@ -1,11 +1,8 @@
 use Prim.Native.Nat.{ℕ}
-use mathlib.Core.Path.{◌≡◌, sym, ◌∙◌}
-use mathlib.Core.Bool.{true}
+use mathlib.Core.Path.{sym, ◌∙◌}
 use native.Mathlib.Omega.{arith}
 use Rattle.omap.specs.Records.{Entry}
-use Rattle.omap.specs.Output.{beside_start, fits}
-use Rattle.omap.specs.Turn.{Turn, turn_with}
-use Rattle.omap.specs.Step.{translated}
+use Rattle.omap.specs.Turn.{turn_with}
 use Rattle.omap.proofs.Pieces.{fits-shown}
 use Rattle.omap.proofs.Turns.{part-empty, part-zero, part-some, turn-skips, turn-early, turn-piece, turn-large}
 use Rattle.omap.proofs.cursor.turn.Goals as goal

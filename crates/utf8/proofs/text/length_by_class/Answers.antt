@@ -1,16 +1,14 @@
 use mathlib.Core.Path.{◌≡◌, refl, sym, ap, ◌∙◌}
-use mathlib.Core.Bool.{Bool, true, false, not}
-use mathlib.Core.List.{[], ◌∷◌, flatten}
+use mathlib.Core.List.{[], flatten}
 use mathlib.Core.Option.{none, some}
-use Prim.Native.Nat.{◌+◌, ◌-◌}
+use Prim.Native.Nat.{◌+◌}
 use native.Mathlib.Omega.{arith}
 use lib.ListN.{length}
 use Rattle.utf8.specs.Classes.{class_of}
-use Rattle.utf8.specs.Due.{following, tails, told_due}
+use Rattle.utf8.specs.Due.{tails, told_due}
 use Rattle.utf8.proofs.Leads.{tails-more}
 use Rattle.utf8.proofs.Reading.{reading-zero, reading-end, reading-never}
-use Rattle.utf8.proofs.ByClass.{ByClass, read-class, led-by-class, followed-by-class, wrong-by-class, here}
-use borrow.Author.Rules.{rules}
+use Rattle.utf8.proofs.ByClass.{read-class, led-by-class, followed-by-class, wrong-by-class, here}
 use Rattle.utf8.proofs.text.length_by_class.Goals as goal
 
 pub loop-i-init : goal.loop-i-init

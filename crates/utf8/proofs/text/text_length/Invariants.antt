@@ -1,12 +1,7 @@
-use mathlib.Core.Path.{◌≡◌, sym, ◌∙◌}
 use mathlib.Core.List.{[]}
 use mathlib.Core.Option.{some}
 use Prim.Native.Nat.{◌-◌}
-use native.Mathlib.Omega.{arith}
-use lib.ListN.{length}
 use Rattle.utf8.specs.Reading.{Reading}
-use Rattle.utf8.proofs.Reading.{reading-first, reading-ascii, reading-zero, reading-end}
-use borrow.Author.Rules.{rules}
 use Rattle.utf8.proofs.text.text_length.Given as goal
 
 abbrev pub invariant-loop-i : goal.invariant-loop-i

@@ -1,15 +1,10 @@
-use borrow.Author.Rules.{rules}
 use Rattle.lent.specs.Paper.{number, told_checked}
 use Rattle.omap.specs.Step.{piece, refused_at}
 use Rattle.omap.specs.declared.cursor.Turned.TheVariants.{Piece, Early, TooLarge}
-use Rattle.omap.proofs.Turns.{walk, step-refused, step-good, walk-done, walk_ends, Onward, skipped}
-use Prim.Native.Nat.{ℕ, ◌+◌, ◌-◌, ◌/◌, min}
-use mathlib.Core.Path.{◌≡◌, refl, sym, ap, ◌∙◌}
+use Rattle.omap.proofs.Turns.{step-refused, step-good, walk-done, walk_ends, Onward, skipped}
+use mathlib.Core.Path.{refl, sym, ap, ◌∙◌}
 use native.Mathlib.Omega.{arith}
-use lib.ListN.{length}
-use mathlib.Core.List.{List}
 use Rattle.omap.specs.Records.{rest}
-use Rattle.omap.specs.Step.{step_spec}
 use Rattle.omap.proofs.cursor.Cursor.step.Goals as goal
 
 pub returns-in-Refused : goal.returns-in-Refused
