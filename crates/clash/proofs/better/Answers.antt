@@ -6,8 +6,9 @@ use Rattle.clash.proofs.better.Goals as goal
 
 pub returns-then-target-eq0 : goal.returns-then-target-eq0
 returns-then-target-eq0 c =
-    pass-zero (c.args.table.now) (c.args.b) (c.args.last) c.requires.1.0 c.requires.0 (c.shared_slice_known-1.given) (c.args.i) c.requires.1.1.0
-    c.args.from c.args.best (omega arith) (omega arith)
+    let a = c.args in
+    pass-zero a.table.now a.b a.last c.requires.1.0 c.requires.0 c.shared_slice_known-1.given a.i c.requires.1.1.0
+    a.from a.best (omega arith) (omega arith)
 
 pub overflow_sub-size : goal.overflow_sub-size
 overflow_sub-size c =
@@ -25,19 +26,24 @@ overflow_add-target c =
 
 pub returns-then-target-size : goal.returns-then-target-size
 returns-then-target-size c =
-    pass-low (c.args.table.now) (c.args.b) (c.args.last) c.requires.1.0 c.requires.0 (c.shared_slice_known-1.given) (c.args.i) c.requires.1.1.0
-    c.args.from c.args.best (omega arith) (omega arith)
-    (omega (arith, c.end_in.ensures, c.u32_at-source.ensures))
+    let a = c.args in
+    pass-low a.table.now a.b a.last c.requires.1.0 c.requires.0 c.shared_slice_known-1.given a.i c.requires.1.1.0
+    a.from a.best (omega arith) (omega arith) (omega (arith, c.end_in.ensures, c.u32_at-source.ensures))
 
 pub returns-then-target-from : goal.returns-then-target-from
 returns-then-target-from c =
-    rw (c.u32_at-source.ensures, c.requires.1.1.1.1.0)
-    (hit-first (c.args.table.now) (c.args.b) (c.args.last) c.requires.1.0 c.requires.0 (c.shared_slice_known-1.given) (c.args.i) c.requires.1.1.0
-    c.args.from c.args.best (omega arith) (omega arith) (omega arith)
-    (omega (arith, c.end_in.ensures, c.u32_at-source.ensures)))
+    let a = c.args in
+    let first = hit-first a.table.now a.b a.last c.requires.1.0 c.requires.0 c.shared_slice_known-1.given a.i
+    c.requires.1.1.0 a.from a.best (omega arith) (omega arith) (omega arith) (omega (
+      arith,
+      c.end_in.ensures,
+      c.u32_at-source.ensures,
+    )) in
+    rw (c.u32_at-source.ensures, c.requires.1.1.1.1.0) first
 
 pub returns : goal.returns
 returns c =
-    rw (c.u32_at-source.ensures, c.requires.1.1.1.1.0)
-    (hit_later (c.args.table.now) (c.args.b) (c.args.last) c.requires.1.0 c.requires.0 (c.shared_slice_known-1.given) (c.args.i) c.requires.1.1.0
-    c.args.from c.args.best (omega arith) (omega arith) (omega arith) (omega arith))
+    let a = c.args in
+    let later = hit_later a.table.now a.b a.last c.requires.1.0 c.requires.0 c.shared_slice_known-1.given a.i
+    c.requires.1.1.0 a.from a.best (omega arith) (omega arith) (omega arith) (omega arith) in
+    rw (c.u32_at-source.ensures, c.requires.1.1.1.1.0) later

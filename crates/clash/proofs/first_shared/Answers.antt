@@ -26,38 +26,37 @@ better-best-requires c =
 
 pub returns-then-best-from : goal.returns-then-best-from
 returns-then-best-from c =
-    searching-found (c.args.table.now) c.args.b (c.args.piece.to) ((c.args.piece.to + c.args.piece.size)) c.args.start c.loop-j.j c.loop-j.best
-    c.loop-j.invariant
-    c.better-best.result c.better-best.ensures (omega arith) (omega arith)
-    ∙ whole (pieces 0 c.args.b (rest c.args.table.now c.args.start)) c.args.piece.to c.args.piece.size
+    let a = c.args in
+    searching-found a.table.now a.b a.piece.to (a.piece.to + a.piece.size) a.start c.loop-j.j c.loop-j.best
+    c.loop-j.invariant c.better-best.result c.better-best.ensures (omega arith) (omega arith) ∙ whole (pieces 0 a.b
+    (rest a.table.now a.start)) a.piece.to a.piece.size
 
 pub loop-j-preserved-else-best-from : goal.loop-j-preserved-else-best-from
 loop-j-preserved-else-best-from c =
-    searching-more (c.args.table.now) c.args.b (c.args.piece.to) ((c.args.piece.to + c.args.piece.size)) c.args.start c.loop-j.j c.loop-j.best
-    c.loop-j.invariant
-    c.better-best.result c.better-best.ensures (omega arith)
+    let a = c.args in
+    searching-more a.table.now a.b a.piece.to (a.piece.to + a.piece.size) a.start c.loop-j.j c.loop-j.best
+    c.loop-j.invariant c.better-best.result c.better-best.ensures (omega arith)
 
 -- a record whose target is not below the best adds nothing
 pub loop-j-preserved : goal.loop-j-preserved
 loop-j-preserved c =
-    searching-more (c.args.table.now) c.args.b (c.args.piece.to) ((c.args.piece.to + c.args.piece.size)) c.args.start c.loop-j.j c.loop-j.best
-    c.loop-j.invariant c.loop-j.best
-    (pass-high (c.args.table.now) c.args.b c.args.last c.requires.1.0 c.requires.0 (c.type_inv.table) c.loop-j.j
-    (omega arith) (c.args.piece.to) c.loop-j.best c.loop-j.invariant.low
-    (omega (arith, c.u32_at-target.ensures, c.loop-j.invariant.low))
-    (omega (arith, c.u32_at-target.ensures)))
-    c.loop-j.invariant.low
+    let a = c.args in
+    let high = pass-high a.table.now a.b a.last c.requires.1.0 c.requires.0 c.type_inv.table c.loop-j.j (omega arith)
+    a.piece.to c.loop-j.best c.loop-j.invariant.low (omega (arith, c.u32_at-target.ensures, c.loop-j.invariant.low))
+    (omega (arith, c.u32_at-target.ensures)) in
+    searching-more a.table.now a.b a.piece.to (a.piece.to + a.piece.size) a.start c.loop-j.j c.loop-j.best
+    c.loop-j.invariant c.loop-j.best high c.loop-j.invariant.low
 
 pub returns-then-best-end : goal.returns-then-best-end
 returns-then-best-end c =
-    searching-some (c.args.table.now) c.args.b (c.args.piece.to) ((c.args.piece.to + c.args.piece.size)) c.args.start c.loop-j.j c.loop-j.best
-    c.loop-j.invariant
-    c.args.last c.requires.1.0 c.requires.0 (omega arith) (omega arith)
-    ∙ whole (pieces 0 c.args.b (rest c.args.table.now c.args.start)) c.args.piece.to c.args.piece.size
+    let a = c.args in
+    searching-some a.table.now a.b a.piece.to (a.piece.to + a.piece.size) a.start c.loop-j.j c.loop-j.best
+    c.loop-j.invariant a.last c.requires.1.0 c.requires.0 (omega arith) (omega arith) ∙ whole (pieces 0 a.b (rest
+    a.table.now a.start)) a.piece.to a.piece.size
 
 pub returns-else-best-end : goal.returns-else-best-end
 returns-else-best-end c =
-    searching-none (c.args.table.now) c.args.b (c.args.piece.to) ((c.args.piece.to + c.args.piece.size)) c.args.start c.loop-j.j c.loop-j.best
-    c.loop-j.invariant
-    c.args.last c.requires.1.0 c.requires.0 (omega arith) (omega arith)
-    ∙ whole (pieces 0 c.args.b (rest c.args.table.now c.args.start)) c.args.piece.to c.args.piece.size
+    let a = c.args in
+    searching-none a.table.now a.b a.piece.to (a.piece.to + a.piece.size) a.start c.loop-j.j c.loop-j.best
+    c.loop-j.invariant a.last c.requires.1.0 c.requires.0 (omega arith) (omega arith) ∙ whole (pieces 0 a.b (rest
+    a.table.now a.start)) a.piece.to a.piece.size

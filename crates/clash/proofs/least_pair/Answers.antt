@@ -25,7 +25,10 @@ next_piece-next-requires c =
 
 pub first_shared-shared-requires : goal.first_shared-shared-requires
 first_shared-shared-requires c =
-    (c.requires, (c.span_of-walk.ensures.bounded.1, (omega (arith, ((was-found true (c.args.table.now) (c.args.a) (c.args.b) c.loop-piece.i c.next_piece-next.ensures c.in-Piece.piece c.in-Piece.after c.in-Piece.is)).some-of-it), ((was-found true (c.args.table.now) (c.args.a) (c.args.b) c.loop-piece.i c.next_piece-next.ensures c.in-Piece.piece c.in-Piece.after c.in-Piece.is)).small)))
+    let a = c.args in
+    let found = was-found true a.table.now a.a a.b c.loop-piece.i c.next_piece-next.ensures c.in-Piece.piece
+    c.in-Piece.after c.in-Piece.is in
+    (c.requires, (c.span_of-walk.ensures.bounded.1, (omega (arith, found.some-of-it), found.small)))
 
 pub source_of-requires : goal.source_of-requires
 source_of-requires c =
@@ -44,22 +47,27 @@ returns-in-At c =
     let found = was-found true a.table.now a.a a.b c.loop-piece.i c.next_piece-next.ensures c.in-Piece.piece
     c.in-Piece.after c.in-Piece.is in
     let shown : Pair = record { first = c.in-At.target; second = c.in-At.source } in
-    rw c.source_of.ensures
-    (ap value (sym (c.loop-piece.invariant ∙ pair-from a.table.now a.a a.b c.loop-piece.i c.in-Piece.piece
-    c.in-Piece.after found (some shown) (sym (ap told_shared c.in-At.is) ∙ c.first_shared-shared.ensures) c.requires)))
+    rw c.source_of.ensures (ap value (sym (c.loop-piece.invariant ∙ pair-from a.table.now a.a a.b c.loop-piece.i
+    c.in-Piece.piece c.in-Piece.after found (some shown) (sym (ap told_shared c.in-At.is) ∙
+    c.first_shared-shared.ensures) c.requires)))
 
 pub loop-piece-smaller : goal.loop-piece-smaller
 loop-piece-smaller c =
-    (nearer true (c.args.table.now) (c.args.a) (c.args.b) c.loop-piece.i c.next_piece-next.ensures c.in-Piece.piece c.in-Piece.after c.in-Piece.is)
+    let a = c.args in
+    nearer true a.table.now a.a a.b c.loop-piece.i c.next_piece-next.ensures c.in-Piece.piece c.in-Piece.after
+    c.in-Piece.is
 
 pub loop-piece-preserved : goal.loop-piece-preserved
 unfolding or_else
 loop-piece-preserved c =
-    c.loop-piece.invariant
-    ∙ pair-from (c.args.table.now) (c.args.a) (c.args.b) c.loop-piece.i (c.in-Piece.piece) (c.in-Piece.after) ((was-found true (c.args.table.now) (c.args.a) (c.args.b) c.loop-piece.i c.next_piece-next.ensures c.in-Piece.piece c.in-Piece.after c.in-Piece.is)) none
-    (sym (ap told_shared c.in_default.is) ∙ c.first_shared-shared.ensures) c.requires
+    let a = c.args in
+    let found = was-found true a.table.now a.a a.b c.loop-piece.i c.next_piece-next.ensures c.in-Piece.piece
+    c.in-Piece.after c.in-Piece.is in
+    c.loop-piece.invariant ∙ pair-from a.table.now a.a a.b c.loop-piece.i c.in-Piece.piece c.in-Piece.after found
+    none (sym (ap told_shared c.in_default.is) ∙ c.first_shared-shared.ensures) c.requires
 
 pub returns-in-End : goal.returns-in-End
 returns-in-End c =
-    ap value (sym (c.loop-piece.invariant ∙ no-clash (left true (c.args.table.now) (c.args.a) (c.args.b) c.loop-piece.i)
-    (was-end true (c.args.table.now) (c.args.a) (c.args.b) c.loop-piece.i c.next_piece-next.ensures c.in-End.is)))
+    let a = c.args in
+    let end = was-end true a.table.now a.a a.b c.loop-piece.i c.next_piece-next.ensures c.in-End.is in
+    ap value (sym (c.loop-piece.invariant ∙ no-clash (left true a.table.now a.a a.b c.loop-piece.i) end))

@@ -25,22 +25,29 @@ next_piece-next-requires c =
 
 pub with_piece-kept-requires : goal.with_piece-kept-requires
 with_piece-kept-requires c =
-    (((was-found true (c.args.table.now) (c.args.a) (c.args.b) c.loop-piece.i c.next_piece-next.ensures c.in-Piece.piece c.in-Piece.after c.in-Piece.is)).small, omega (arith, ((was-found true (c.args.table.now) (c.args.a) (c.args.b) c.loop-piece.i c.next_piece-next.ensures c.in-Piece.piece c.in-Piece.after c.in-Piece.is)).inside))
+    let a = c.args in
+    let found = was-found true a.table.now a.a a.b c.loop-piece.i c.next_piece-next.ensures c.in-Piece.piece
+    c.in-Piece.after c.in-Piece.is in
+    (found.small, omega (arith, found.inside))
 
 pub loop-piece-smaller : goal.loop-piece-smaller
 loop-piece-smaller c =
-    (nearer true (c.args.table.now) (c.args.a) (c.args.b) c.loop-piece.i c.next_piece-next.ensures c.in-Piece.piece c.in-Piece.after c.in-Piece.is)
+    let a = c.args in
+    nearer true a.table.now a.a a.b c.loop-piece.i c.next_piece-next.ensures c.in-Piece.piece c.in-Piece.after
+    c.in-Piece.is
 
 pub loop-piece-preserved : goal.loop-piece-preserved
 loop-piece-preserved c =
-    c.loop-piece.invariant
-    ∙ back_more (so_far c.loop-piece.kept) (so_far c.with_piece-kept.result) (left true (c.args.table.now) (c.args.a) (c.args.b) c.loop-piece.i)
-    (c.in-Piece.piece) (left true (c.args.table.now) (c.args.a) (c.args.b) (c.in-Piece.after)) c.args.t
-    ((was-found true (c.args.table.now) (c.args.a) (c.args.b) c.loop-piece.i c.next_piece-next.ensures c.in-Piece.piece c.in-Piece.after c.in-Piece.is)).first c.with_piece-kept.ensures
+    let a = c.args in
+    let found = was-found true a.table.now a.a a.b c.loop-piece.i c.next_piece-next.ensures c.in-Piece.piece
+    c.in-Piece.after c.in-Piece.is in
+    c.loop-piece.invariant ∙ back_more (so_far c.loop-piece.kept) (so_far c.with_piece-kept.result) (left true
+    a.table.now a.a a.b c.loop-piece.i) c.in-Piece.piece (left true a.table.now a.a a.b c.in-Piece.after) a.t
+    found.first c.with_piece-kept.ensures
 
 pub returns-in-End : goal.returns-in-End
 returns-in-End c =
-    c.back_of.ensures
-    ∙ sym (c.loop-piece.invariant ∙ back_last (so_far c.loop-piece.kept) (left true (c.args.table.now) (c.args.a) (c.args.b) c.loop-piece.i) c.args.t
-    (was-end true (c.args.table.now) (c.args.a) (c.args.b) c.loop-piece.i c.next_piece-next.ensures
-    c.in-End.is))
+    let a = c.args in
+    let end = was-end true a.table.now a.a a.b c.loop-piece.i c.next_piece-next.ensures c.in-End.is in
+    c.back_of.ensures ∙ sym (c.loop-piece.invariant ∙ back_last (so_far c.loop-piece.kept) (left true a.table.now a.a
+    a.b c.loop-piece.i) a.t end)

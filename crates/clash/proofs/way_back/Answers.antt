@@ -9,7 +9,10 @@ use Rattle.clash.proofs.way_back.Goals as goal
 
 pub walk_back-requires : goal.walk_back-requires
 walk_back-requires c =
-    ((was-counted true c.args.table.now c.args.a c.args.b c.in-Pieces.field-0 (sym (ap told_counted c.in-Pieces.is) ∙ c.count-counted.ensures))).order
+    let a = c.args in
+    let counted = was-counted true a.table.now a.a a.b c.in-Pieces.field-0 (sym (ap told_counted c.in-Pieces.is) ∙
+    c.count-counted.ensures) in
+    counted.order
 
 pub returns-in-Refused : goal.returns-in-Refused
 returns-in-Refused c =
@@ -29,5 +32,6 @@ returns-in-TooLarge c =
 pub returns-in-Pieces : goal.returns-in-Pieces
 returns-in-Pieces c =
     let a = c.args in
-    c.walk_back.ensures ∙ back-given a.table.now a.a a.b ((was-counted true c.args.table.now c.args.a c.args.b c.in-Pieces.field-0 (sym (ap told_counted c.in-Pieces.is) ∙ c.count-counted.ensures))).order ((was-counted true c.args.table.now c.args.a c.args.b c.in-Pieces.field-0 (sym (ap told_counted c.in-Pieces.is) ∙ c.count-counted.ensures))).faultless
-    (omega arith) a.t
+    let counted = was-counted true c.args.table.now c.args.a c.args.b c.in-Pieces.field-0 (sym (ap told_counted
+    c.in-Pieces.is) ∙ c.count-counted.ensures) in
+    c.walk_back.ensures ∙ back-given a.table.now a.a a.b counted.order counted.faultless (omega arith) a.t

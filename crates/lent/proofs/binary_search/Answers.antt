@@ -14,11 +14,19 @@ loop-longest-init c =
 
 pub overflow_mul-width : goal.overflow_mul-width
 overflow_mul-width c =
-    omega (arith, ((inside c.args.width (length c.args.table.now) c.loop-longest.middle (omega (arith, c.loop-longest.invariant)))))
+    let here = inside c.args.width (length c.args.table.now) c.loop-longest.middle (omega (
+      arith,
+      c.loop-longest.invariant,
+    )) in
+    omega (arith, here)
 
 pub u32_at-requires : goal.u32_at-requires
 u32_at-requires c =
-    omega (arith, ((inside c.args.width (length c.args.table.now) c.loop-longest.middle (omega (arith, c.loop-longest.invariant)))))
+    let here = inside c.args.width (length c.args.table.now) c.loop-longest.middle (omega (
+      arith,
+      c.loop-longest.invariant,
+    )) in
+    omega (arith, here)
 
 pub overflow_add-in_after : goal.overflow_add-in_after
 overflow_add-in_after c =
@@ -42,24 +50,33 @@ overflow_add-probes c =
 
 pub loop-longest-preserved : goal.loop-longest-preserved
 loop-longest-preserved c =
+    let a = c.args in
     let r = c.loop-longest in
-    halving-next (c.args.width) (c.args.table.now) (c.args.address) r.lo r.hi r.middle r.longest r.probes r.invariant (omega arith)
-    (leb c.u32_at.result (c.args.address)) (ap (λ (x : ℕ). leb x (c.args.address)) c.u32_at.ensures)
-    c.chosen-lo.result c.chosen-hi.result c.chosen-middle.result
-    c.chosen-lo.ensures c.chosen-hi.ensures c.chosen-middle.ensures
+    halving-next a.width a.table.now a.address r.lo r.hi r.middle r.longest r.probes r.invariant (omega arith) (leb
+    c.u32_at.result a.address) (ap (λ (x : ℕ). leb x a.address) c.u32_at.ensures) c.chosen-lo.result
+    c.chosen-hi.result c.chosen-middle.result c.chosen-lo.ensures c.chosen-hi.ensures c.chosen-middle.ensures
 
 pub returns-then-lo-hi : goal.returns-then-lo-hi
 returns-then-lo-hi c =
+    let a = c.args in
     let r = c.loop-longest in
-    halving-done (c.args.width) (c.args.table.now) (c.args.address) r.lo r.hi r.middle r.longest r.probes r.invariant (omega arith)
+    halving-done a.width a.table.now a.address r.lo r.hi r.middle r.longest r.probes r.invariant (omega arith)
 
 pub overflow_mul-width-2 : goal.overflow_mul-width-2
 overflow_mul-width-2 c =
-    omega (arith, ((inside c.args.width (length c.args.table.now) c.loop-longest.lo (omega (arith, c.loop-longest.invariant)))))
+    let here = inside c.args.width (length c.args.table.now) c.loop-longest.lo (omega (
+      arith,
+      c.loop-longest.invariant,
+    )) in
+    omega (arith, here)
 
 pub u32_at-requires-2 : goal.u32_at-requires-2
 u32_at-requires-2 c =
-    omega (arith, ((inside c.args.width (length c.args.table.now) c.loop-longest.lo (omega (arith, c.loop-longest.invariant)))))
+    let here = inside c.args.width (length c.args.table.now) c.loop-longest.lo (omega (
+      arith,
+      c.loop-longest.invariant,
+    )) in
+    omega (arith, here)
 
 pub overflow_add-lo : goal.overflow_add-lo
 overflow_add-lo c =
@@ -71,7 +88,11 @@ overflow_add-result c =
 
 pub returns : goal.returns
 returns c =
+    let a = c.args in
     let r = c.loop-longest in
-    halving-last (c.args.width) (c.args.table.now) (c.args.address) r.lo r.hi r.middle r.longest r.probes r.invariant (omega (arith, c.loop-longest.invariant.up, c.if-lo-hi.false))
-    (omega arith) (leb c.u32_at-2.result (c.args.address)) (ap (λ (x : ℕ). leb x (c.args.address)) c.u32_at-2.ensures)
-    c.chosen.result c.chosen.ensures
+    halving-last a.width a.table.now a.address r.lo r.hi r.middle r.longest r.probes r.invariant (omega (
+      arith,
+      c.loop-longest.invariant.up,
+      c.if-lo-hi.false,
+    )) (omega arith) (leb c.u32_at-2.result a.address) (ap (λ (x : ℕ).
+    leb x a.address) c.u32_at-2.ensures) c.chosen.result c.chosen.ensures

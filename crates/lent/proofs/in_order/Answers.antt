@@ -54,21 +54,24 @@ overflow_add-i c =
     omega (arith, div-le_self (length (c.args.table.now)) (c.args.width))
 
 pub loop-i-preserved : goal.loop-i-preserved
-loop-i-preserved c = (
-  omega arith,
-  (
-    omega arith,
-    (
-      refl,
-      rw (c.not_above-fault.ensures, c.u32_at-key.ensures)
-          (c.loop-i.invariant.1.1.1 ∙ after-step (key_at (c.args.width) (c.args.table.now)) c.loop-i.i (length (c.args.table.now) / c.args.width)
-          c.loop-i.before (omega arith) c.loop-i.fault),
-    ),
-  ),
-)
+loop-i-preserved c =
+    let a = c.args in (
+      omega arith,
+      (
+        omega arith,
+        (
+          refl,
+          rw (c.not_above-fault.ensures, c.u32_at-key.ensures)
+              (c.loop-i.invariant.1.1.1 ∙ after-step (key_at a.width a.table.now) c.loop-i.i (length a.table.now / a.width)
+              c.loop-i.before (omega arith) c.loop-i.fault),
+        ),
+      ),
+    )
 
 pub returns : goal.returns
 returns c =
-    sym (c.loop-i.invariant.1.1.1 ∙ ap (λ (t : Bool). eqb c.loop-i.fault 0 && t)
-    (rising-all (key_at (c.args.width) (c.args.table.now)) c.loop-i.before c.loop-i.i (length (c.args.table.now) / c.args.width) (omega arith))
-    ∙ and-true (eqb c.loop-i.fault 0))
+    let a = c.args in
+    let all = rising-all (key_at a.width a.table.now) c.loop-i.before c.loop-i.i (length a.table.now / a.width)
+    (omega arith) in
+    sym (c.loop-i.invariant.1.1.1 ∙ ap (λ (t : Bool). eqb c.loop-i.fault 0 && t) all ∙ and-true (eqb c.loop-i.fault
+    0))

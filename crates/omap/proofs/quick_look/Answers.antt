@@ -18,11 +18,16 @@ translate_before-requires c =
 
 pub overflow_cast-found : goal.overflow_cast-found
 overflow_cast-found c =
-    omega (arith, within-21 (c.args.table.now) (c.args.address) ((sym (ap told_checked c.in_default.is) ∙ c.omap_shape-shaped.ensures)), ap (λ (r : Searched). r.probes) c.binary_search-found.ensures)
+    omega (
+      arith,
+      within-21 c.args.table.now c.args.address (sym (ap told_checked c.in_default.is) ∙
+          c.omap_shape-shaped.ensures),
+      ap (λ (r : Searched). r.probes) c.binary_search-found.ensures,
+    )
 
 pub returns : goal.returns
 returns c =
-    c.with_probes.ensures
-    ∙ ap (reported c.binary_search-found.result.probes) c.translate_before.ensures
-    ∙ ap (answered_at (c.args.table.now) (c.args.address)) c.binary_search-found.ensures
-    ∙ quick-good (c.args.table.now) (c.args.address) ((sym (ap told_checked c.in_default.is) ∙ c.omap_shape-shaped.ensures))
+    let a = c.args in
+    c.with_probes.ensures ∙ ap (reported c.binary_search-found.result.probes) c.translate_before.ensures ∙ ap
+    (answered_at a.table.now a.address) c.binary_search-found.ensures ∙ quick-good a.table.now a.address (sym (ap
+    told_checked c.in_default.is) ∙ c.omap_shape-shaped.ensures)

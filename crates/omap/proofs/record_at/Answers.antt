@@ -13,10 +13,12 @@ returns-in-Refused c =
 pub returns-then-place-table : goal.returns-then-place-table
 returns-then-place-table c =
     let a = c.args in
-    rw (c.u32_at-source.ensures, c.u32_at-target.ensures)
-    (record-given a.table.now a.place ((sym (ap told_checked c.in_default.is) ∙ c.omap_shape-shaped.ensures)) (omega arith))
+    let given = record-given a.table.now a.place (sym (ap told_checked c.in_default.is) ∙
+    c.omap_shape-shaped.ensures) (omega arith) in
+    rw (c.u32_at-source.ensures, c.u32_at-target.ensures) given
 
 pub returns-else-place-table : goal.returns-else-place-table
 returns-else-place-table c =
     let a = c.args in
-    record-none a.table.now a.place ((sym (ap told_checked c.in_default.is) ∙ c.omap_shape-shaped.ensures)) (omega arith)
+    record-none a.table.now a.place (sym (ap told_checked c.in_default.is) ∙ c.omap_shape-shaped.ensures) (omega
+    arith)

@@ -7,19 +7,31 @@ use Rattle.ranges.proofs.pull.Goals as goal
 
 pub overflow_cast-result : goal.overflow_cast-result
 overflow_cast-result c =
-    omega (arith, ((pulled-fits c.requires (was-found c.args.present c.args.table.now c.args.a c.args.b c.args.span.first c.next_piece-next.ensures c.in-Piece.piece c.in-Piece.first c.in-Piece.is))).0)
+    let a = c.args in
+    let found = was-found a.present a.table.now a.a a.b a.span.first c.next_piece-next.ensures c.in-Piece.piece
+    c.in-Piece.first c.in-Piece.is in
+    omega (arith, ((pulled-fits c.requires found)).0)
 
 pub beside_start-requires : goal.beside_start-requires
 beside_start-requires c =
-    ((was-found c.args.present c.args.table.now c.args.a c.args.b c.args.span.first c.next_piece-next.ensures c.in-Piece.piece c.in-Piece.first c.in-Piece.is)).small
+    let a = c.args in
+    let found = was-found a.present a.table.now a.a a.b a.span.first c.next_piece-next.ensures c.in-Piece.piece
+    c.in-Piece.first c.in-Piece.is in
+    found.small
 
 pub overflow_cast-result-in-Piece : goal.overflow_cast-result-in-Piece
 overflow_cast-result-in-Piece c =
-    omega (arith, c.beside_start.ensures, ((pulled-fits c.requires (was-found c.args.present c.args.table.now c.args.a c.args.b c.args.span.first c.next_piece-next.ensures c.in-Piece.piece c.in-Piece.first c.in-Piece.is))).1)
+    let a = c.args in
+    let found = was-found a.present a.table.now a.a a.b a.span.first c.next_piece-next.ensures c.in-Piece.piece
+    c.in-Piece.first c.in-Piece.is in
+    omega (arith, c.beside_start.ensures, ((pulled-fits c.requires found)).1)
 
 pub returns-in-Piece : goal.returns-in-Piece
 returns-in-Piece c =
-    rw c.beside_start.ensures (pulled c.requires ((was-found c.args.present c.args.table.now c.args.a c.args.b c.args.span.first c.next_piece-next.ensures c.in-Piece.piece c.in-Piece.first c.in-Piece.is)))
+    let a = c.args in
+    let found = was-found a.present a.table.now a.a a.b a.span.first c.next_piece-next.ensures c.in-Piece.piece
+    c.in-Piece.first c.in-Piece.is in
+    rw c.beside_start.ensures (pulled c.requires found)
 
 -- a piece is left
 pub returns-in-End : goal.returns-in-End

@@ -16,8 +16,13 @@ returns-in-Refused c =
 pub loop-i-init : goal.loop-i-init
 loop-i-init c =
     let a = c.args in
-    let s = a.sections.now in
-    (omega arith, (at_most section_table s ((sym (ap told_checked c.in_default.is) ∙ c.section_shape-shaped.ensures)), section-good a.by s a.address ((sym (ap told_checked c.in_default.is) ∙ c.section_shape-shaped.ensures))))
+    let s = a.sections.now in (
+      omega arith,
+      (
+        at_most section_table s (sym (ap told_checked c.in_default.is) ∙ c.section_shape-shaped.ensures),
+        section-good a.by s a.address (sym (ap told_checked c.in_default.is) ∙ c.section_shape-shaped.ensures),
+      ),
+    )
 
 pub returns-then-address-start : goal.returns-then-address-start
 returns-then-address-start c =

@@ -14,8 +14,8 @@ loop-k-init c =
 
 pub loop-k-preserved-in-Absent : goal.loop-k-preserved-in-Absent
 loop-k-preserved-in-Absent c =
-    let l = c.loop-k in
     let a = c.args in
+    let l = c.loop-k in
     let here = sym c.span_at-span.ensures ∙ c.in-Absent.is in
     let part = touch-part a.file.now a.at l.place l.k (omega arith) Absent here in
     let passed = touch-absent l.place a.at (parts_left a.file.now a.at (l.k + 1)) in
@@ -23,24 +23,26 @@ loop-k-preserved-in-Absent c =
 
 pub loop-k-preserved : goal.loop-k-preserved
 loop-k-preserved c =
-    let l = c.loop-k in
     let a = c.args in
+    let l = c.loop-k in
     let here = sym c.span_at-span.ensures ∙ c.in-At.is in
     let part = touch-part a.file.now a.at l.place l.k (omega arith) (At c.in-At.start c.in-At.size) here in
-    let passed = touch-here l.place a.at (parts_left a.file.now a.at (l.k + 1)) c.in-At.start c.in-At.size (omega arith) in
+    let passed = touch-here l.place a.at (parts_left a.file.now a.at (l.k + 1)) c.in-At.start c.in-At.size (omega
+    arith) in
     (omega arith, (omega arith, l.invariant.1.1 ∙ part ∙ passed))
 
 pub returns-else-start-place : goal.returns-else-start-place
 returns-else-start-place c =
-    let l = c.loop-k in
     let a = c.args in
+    let l = c.loop-k in
     let here = sym c.span_at-span.ensures ∙ c.in-At.is in
     let part = touch-part a.file.now a.at l.place l.k (omega arith) (At c.in-At.start c.in-At.size) here in
-    let stopped = touch-elsewhere l.place a.at (parts_left a.file.now a.at (l.k + 1)) c.in-At.start c.in-At.size (omega arith) in
+    let stopped = touch-elsewhere l.place a.at (parts_left a.file.now a.at (l.k + 1)) c.in-At.start c.in-At.size
+    (omega arith) in
     sym (l.invariant.1.1 ∙ part ∙ stopped)
 
 pub returns : goal.returns
 returns c =
-    let l = c.loop-k in
     let a = c.args in
+    let l = c.loop-k in
     sym (l.invariant.1.1 ∙ touch-end a.file.now a.at l.place l.k (omega arith))

@@ -19,12 +19,21 @@ returns-then-j-new-2 c =
 
 pub returns-then-old_start-new_start : goal.returns-then-old_start-new_start
 returns-then-old_start-new_start c =
-    (sym (two-left c.args.old.now c.args.new.now c.args.i c.args.j (omega arith) (omega arith) ∙ ap some (old-lesser ((old_record c.args.old.now c.args.i)) ((new_record c.args.new.now c.args.j)) (omega arith))))
+    let a = c.args in
+    let comes = old-lesser (old_record a.old.now a.i) (new_record a.new.now a.j) (omega arith) in
+    let left = two-left a.old.now a.new.now a.i a.j (omega arith) (omega arith) ∙ ap some comes in
+    sym left
 
 pub returns-then-new_start-old_start : goal.returns-then-new_start-old_start
 returns-then-new_start-old_start c =
-    (sym (two-left c.args.old.now c.args.new.now c.args.i c.args.j (omega arith) (omega arith) ∙ ap some (new-lesser ((old_record c.args.old.now c.args.i)) ((new_record c.args.new.now c.args.j)) (omega arith))))
+    let a = c.args in
+    let comes = new-lesser (old_record a.old.now a.i) (new_record a.new.now a.j) (omega arith) in
+    let left = two-left a.old.now a.new.now a.i a.j (omega arith) (omega arith) ∙ ap some comes in
+    sym left
 
 pub returns : goal.returns
 returns c =
-    (sym (two-left c.args.old.now c.args.new.now c.args.i c.args.j (omega arith) (omega arith) ∙ ap some (equal ((old_record c.args.old.now c.args.i)) ((new_record c.args.new.now c.args.j)) (omega arith))))
+    let a = c.args in
+    let comes = equal (old_record a.old.now a.i) (new_record a.new.now a.j) (omega arith) in
+    let left = two-left a.old.now a.new.now a.i a.j (omega arith) (omega arith) ∙ ap some comes in
+    sym left

@@ -14,9 +14,20 @@ returns-in-Refused c =
 pub returns-then-place-table : goal.returns-then-place-table
 unfolding new_frame_spec
 returns-then-place-table c =
-    rw ((good c.new_frame_shape-shaped.ensures c.in_default.is), used-up (new_record (c.args.table.now)) (length (c.args.table.now) / 32) (c.args.place) (omega arith))
+    let a = c.args in
+    rw (
+      (good c.new_frame_shape-shaped.ensures c.in_default.is),
+      used-up (new_record a.table.now) (length a.table.now
+          / 32) a.place (omega arith),
+    )
 
 pub returns : goal.returns
 unfolding new_frame_spec
 returns c =
-    rw ((good c.new_frame_shape-shaped.ensures c.in_default.is), there (new_record (c.args.table.now)) (length (c.args.table.now) / 32) (c.args.place) (omega arith), c.new_frame-frame.ensures)
+    let a = c.args in
+    rw (
+      (good c.new_frame_shape-shaped.ensures c.in_default.is),
+      there (new_record a.table.now) (length a.table.now /
+          32) a.place (omega arith),
+      c.new_frame-frame.ensures,
+    )

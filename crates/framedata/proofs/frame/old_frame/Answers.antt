@@ -10,11 +10,19 @@ use Rattle.framedata.proofs.frame.old_frame.Goals as goal
 
 pub returns-then-locals-gt1073741823 : goal.returns-then-locals-gt1073741823
 returns-then-locals-gt1073741823 c =
-    rw (lt-leb (((old_record c.args.table.now c.args.place)).locals_size * 4) 4294967295 (omega (arith, c.u32_at-locals.ensures)))
+    rw (lt-leb (((old_record c.args.table.now c.args.place)).locals_size * 4) 4294967295 (omega (
+      arith,
+      c.u32_at-locals.ensures,
+    )))
 
 pub overflow_mul-result-3 : goal.overflow_mul-result-3
 overflow_mul-result-3 c =
-    omega (arith, few_saved ((old_record c.args.table.now c.args.place)).attributes, ap (λ (b : Attributes). b.saved_regs) ((c.attributes_of-attributes.ensures ∙ ap attributes c.u16_at.ensures)))
+    omega (
+      arith,
+      few_saved ((old_record c.args.table.now c.args.place)).attributes,
+      ap (λ (b : Attributes).
+          b.saved_regs) (c.attributes_of-attributes.ensures ∙ ap attributes c.u16_at.ensures),
+    )
 
 pub returns : goal.returns
 unfolding from_old

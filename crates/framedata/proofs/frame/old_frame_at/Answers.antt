@@ -15,16 +15,29 @@ returns-in-Refused c =
 pub returns-then-place-table : goal.returns-then-place-table
 unfolding old_frame_spec
 returns-then-place-table c =
-    rw ((good c.old_frame_shape-shaped.ensures c.in_default.is), used-up (old_record (c.args.table.now)) (length (c.args.table.now) / 16) (c.args.place) (omega arith))
+    let a = c.args in
+    rw (
+      (good c.old_frame_shape-shaped.ensures c.in_default.is),
+      used-up (old_record a.table.now) (length a.table.now
+          / 16) a.place (omega arith),
+    )
 
 pub returns-in-Frame : goal.returns-in-Frame
 unfolding old_frame_spec
 returns-in-Frame c =
-    rw ((good c.old_frame_shape-shaped.ensures c.in_default.is), there (old_record (c.args.table.now)) (length (c.args.table.now) / 16) (c.args.place) (omega arith))
-    (ap told_decoded (sym c.in-Frame.is) ∙ c.old_frame-decoded.ensures)
+    let a = c.args in
+    rw (
+      (good c.old_frame_shape-shaped.ensures c.in_default.is),
+      there (old_record a.table.now) (length a.table.now /
+          16) a.place (omega arith),
+    ) (ap told_decoded (sym c.in-Frame.is) ∙ c.old_frame-decoded.ensures)
 
 pub returns-in-TooLarge : goal.returns-in-TooLarge
 unfolding old_frame_spec
 returns-in-TooLarge c =
-    rw ((good c.old_frame_shape-shaped.ensures c.in_default.is), there (old_record (c.args.table.now)) (length (c.args.table.now) / 16) (c.args.place) (omega arith))
-    (ap told_decoded (sym c.in-TooLarge.is) ∙ c.old_frame-decoded.ensures)
+    let a = c.args in
+    rw (
+      (good c.old_frame_shape-shaped.ensures c.in_default.is),
+      there (old_record a.table.now) (length a.table.now /
+          16) a.place (omega arith),
+    ) (ap told_decoded (sym c.in-TooLarge.is) ∙ c.old_frame-decoded.ensures)

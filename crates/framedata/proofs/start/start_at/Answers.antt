@@ -12,14 +12,24 @@ returns-in-Refused c =
 
 pub place_at-requires : goal.place_at-requires
 place_at-requires c =
-    (omega arith, (both-good (c.if_present-olds.result.now) (c.if_present-news.result.now) ((good c.checks-checked.ensures c.in_default.is))).0)
+    let both = both-good c.if_present-olds.result.now c.if_present-news.result.now (good c.checks-checked.ensures
+    c.in_default.is) in
+    (omega arith, both.0)
 
 pub place_at-requires-2 : goal.place_at-requires-2
 place_at-requires-2 c =
-    (omega arith, (both-good (c.if_present-olds.result.now) (c.if_present-news.result.now) ((good c.checks-checked.ensures c.in_default.is))).1)
+    let both = both-good c.if_present-olds.result.now c.if_present-news.result.now (good c.checks-checked.ensures
+    c.in_default.is) in
+    (omega arith, both.1)
 
 pub returns : goal.returns
 unfolding start_spec
 returns c =
     let places = c.place_at.ensures in
-    rw (← c.if_present-olds.ensures, ← c.if_present-news.ensures, (good c.checks-checked.ensures c.in_default.is), places, c.place_at-2.ensures)
+    rw (
+      ← c.if_present-olds.ensures,
+      ← c.if_present-news.ensures,
+      (good c.checks-checked.ensures c.in_default.is),
+      places,
+      c.place_at-2.ensures,
+    )

@@ -14,26 +14,32 @@ end_in-end-requires c =
 
 pub returns-then-from-end : goal.returns-then-from-end
 returns-then-from-end c =
-    rw (c.u32_at-source.ensures, c.u32_at-target.ensures)
-    (walk-found (c.args.table.now) (c.args.a) (c.args.b) (c.loop-j.j) (omega (arith, c.requires.1.within)) c.args.i c.loop-j.invariant.1 (c.larger-from.result) (c.end_in-end.result) ((c.larger-from.ensures ∙ ap (max (c.args.a)) c.u32_at-source.ensures))
-    c.end_in-end.ensures (omega arith)
-    (λ z. c.if-target-ne0.true (omega arith)) c.shared_slice_known-1.given c.loop-j.invariant.0
-    (omega arith) (omega arith))
+    let a = c.args in
+    rw (c.u32_at-source.ensures, c.u32_at-target.ensures) (walk-found a.table.now a.a a.b c.loop-j.j (omega (
+      arith,
+      c.requires.1.within,
+    )) a.i c.loop-j.invariant.1 c.larger-from.result c.end_in-end.result (c.larger-from.ensures ∙
+    ap (max a.a) c.u32_at-source.ensures) c.end_in-end.ensures (omega arith) (λ z. c.if-target-ne0.true (omega
+    arith)) c.shared_slice_known-1.given c.loop-j.invariant.0 (omega arith) (omega arith))
 
 pub loop-j-preserved-else-from-end : goal.loop-j-preserved-else-from-end
-loop-j-preserved-else-from-end c = (
-  omega arith,
-  walk-empty (c.args.table.now) (c.args.a) (c.args.b) (c.loop-j.j) (omega (arith, c.requires.1.within)) c.args.i c.loop-j.invariant.1 (c.larger-from.result)
-      (c.end_in-end.result) ((c.larger-from.ensures ∙ ap (max (c.args.a)) c.u32_at-source.ensures)) c.end_in-end.ensures (omega arith),
-)
+loop-j-preserved-else-from-end c =
+    let a = c.args in (
+      omega arith,
+      walk-empty a.table.now a.a a.b c.loop-j.j (omega (arith, c.requires.1.within)) a.i
+          c.loop-j.invariant.1 c.larger-from.result c.end_in-end.result (c.larger-from.ensures ∙ ap (max a.a)
+          c.u32_at-source.ensures) c.end_in-end.ensures (omega arith),
+    )
 
 pub loop-j-preserved : goal.loop-j-preserved
-loop-j-preserved c = (
-  omega arith,
-  walk-zero (c.args.table.now) (c.args.a) (c.args.b) (c.loop-j.j) (omega (arith, c.requires.1.within)) c.args.i c.loop-j.invariant.1
-      (omega arith),
-)
+loop-j-preserved c =
+    let a = c.args in (
+      omega arith,
+      walk-zero a.table.now a.a a.b c.loop-j.j (omega (arith, c.requires.1.within)) a.i
+          c.loop-j.invariant.1 (omega arith),
+    )
 
 pub returns : goal.returns
 returns c =
-    c.loop-j.invariant.1 ∙ none_after (c.args.table.now) (c.args.b) (c.args.last) c.requires.1 c.requires.0 (c.args.a) (c.loop-j.j) (omega arith)
+    let a = c.args in
+    c.loop-j.invariant.1 ∙ none_after a.table.now a.b a.last c.requires.1 c.requires.0 a.a c.loop-j.j (omega arith)

@@ -17,4 +17,5 @@ count_pieces-requires c =
 pub returns : goal.returns
 returns c =
     let a = c.args in
-    c.count_pieces.ensures ∙ count-tallied a.present a.table.now a.a a.b ((sym (ap told_checked c.in_default.is) ∙ c.marked_check-checked.ensures))
+    c.count_pieces.ensures ∙ count-tallied a.present a.table.now a.a a.b (sym (ap told_checked c.in_default.is) ∙
+    c.marked_check-checked.ensures)

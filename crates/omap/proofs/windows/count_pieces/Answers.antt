@@ -21,30 +21,45 @@ next_piece-next-requires c =
 
 pub fits-requires : goal.fits-requires
 fits-requires c =
-    ((was-found (c.args.present) (c.args.table.now) (c.args.a) (c.args.b) c.loop-piece.i c.next_piece-next.ensures c.in-Piece.piece c.in-Piece.after c.in-Piece.is)).small
+    let a = c.args in
+    let found = was-found a.present a.table.now a.a a.b c.loop-piece.i c.next_piece-next.ensures c.in-Piece.piece
+    c.in-Piece.after c.in-Piece.is in
+    found.small
 
 pub overflow_add-count : goal.overflow_add-count
 overflow_add-count c =
-    omega (arith, c.loop-piece.invariant.few, ((was-found (c.args.present) (c.args.table.now) (c.args.a) (c.args.b) c.loop-piece.i c.next_piece-next.ensures c.in-Piece.piece c.in-Piece.after c.in-Piece.is)).further)
+    let a = c.args in
+    let found = was-found a.present a.table.now a.a a.b c.loop-piece.i c.next_piece-next.ensures c.in-Piece.piece
+    c.in-Piece.after c.in-Piece.is in
+    omega (arith, c.loop-piece.invariant.few, found.further)
 
 pub loop-piece-smaller : goal.loop-piece-smaller
 loop-piece-smaller c =
-    (nearer (c.args.present) (c.args.table.now) (c.args.a) (c.args.b) c.loop-piece.i c.next_piece-next.ensures c.in-Piece.piece c.in-Piece.after c.in-Piece.is)
+    let a = c.args in
+    nearer a.present a.table.now a.a a.b c.loop-piece.i c.next_piece-next.ensures c.in-Piece.piece c.in-Piece.after
+    c.in-Piece.is
 
 pub loop-piece-preserved : goal.loop-piece-preserved
 loop-piece-preserved c =
-    counting_more (c.args.present) (c.args.table.now) (c.args.a) (c.args.b) c.loop-piece.i c.loop-piece.count c.loop-piece.invariant (c.in-Piece.piece) (c.in-Piece.after) ((was-found (c.args.present) (c.args.table.now) (c.args.a) (c.args.b) c.loop-piece.i c.next_piece-next.ensures c.in-Piece.piece c.in-Piece.after c.in-Piece.is))
-    (sym c.fits.ensures ∙ c.if-fits.true)
+    let a = c.args in
+    let found = was-found a.present a.table.now a.a a.b c.loop-piece.i c.next_piece-next.ensures c.in-Piece.piece
+    c.in-Piece.after c.in-Piece.is in
+    counting_more a.present a.table.now a.a a.b c.loop-piece.i c.loop-piece.count c.loop-piece.invariant
+    c.in-Piece.piece c.in-Piece.after found (sym c.fits.ensures ∙ c.if-fits.true)
 
 pub returns-else-fits : goal.returns-else-fits
 returns-else-fits c =
-    tally-large (window_pieces (c.args.present) (c.args.table.now) (c.args.a) (c.args.b))
-    (counting-not (c.args.present) (c.args.table.now) (c.args.a) (c.args.b) c.loop-piece.i c.loop-piece.count c.loop-piece.invariant (c.in-Piece.piece) (c.in-Piece.after) ((was-found (c.args.present) (c.args.table.now) (c.args.a) (c.args.b) c.loop-piece.i c.next_piece-next.ensures c.in-Piece.piece c.in-Piece.after c.in-Piece.is))
-    (sym c.fits.ensures ∙ c.if-fits.false))
+    let a = c.args in
+    let found = was-found a.present a.table.now a.a a.b c.loop-piece.i c.next_piece-next.ensures c.in-Piece.piece
+    c.in-Piece.after c.in-Piece.is in
+    let not = counting-not a.present a.table.now a.a a.b c.loop-piece.i c.loop-piece.count c.loop-piece.invariant
+    c.in-Piece.piece c.in-Piece.after found (sym c.fits.ensures ∙ c.if-fits.false) in
+    tally-large (window_pieces a.present a.table.now a.a a.b) not
 
 pub returns-in-End : goal.returns-in-End
 returns-in-End c =
-    let e = counting-last (c.args.present) (c.args.table.now) (c.args.a) (c.args.b) c.loop-piece.i c.loop-piece.count c.loop-piece.invariant
-    (was-end (c.args.present) (c.args.table.now) (c.args.a) (c.args.b) c.loop-piece.i c.next_piece-next.ensures
-    c.in-End.is) in
-    tally-pieces (window_pieces (c.args.present) (c.args.table.now) (c.args.a) (c.args.b)) e.0 c.loop-piece.count e.1
+    let a = c.args in
+    let end = was-end a.present a.table.now a.a a.b c.loop-piece.i c.next_piece-next.ensures c.in-End.is in
+    let e = counting-last a.present a.table.now a.a a.b c.loop-piece.i c.loop-piece.count c.loop-piece.invariant end
+    in
+    tally-pieces (window_pieces a.present a.table.now a.a a.b) e.0 c.loop-piece.count e.1

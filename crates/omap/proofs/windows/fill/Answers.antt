@@ -20,33 +20,61 @@ next_piece-next-requires c =
 
 pub overflow_cast-out : goal.overflow_cast-out
 overflow_cast-out c =
-    omega (arith, ((shown (c.args.present) (c.args.table.now) (c.args.a) (c.args.b) c.args.out.now c.loop-piece.out c.loop-piece.i c.loop-piece.k c.loop-piece.invariant c.in-Piece.piece c.in-Piece.after (was-found (c.args.present) (c.args.table.now) (c.args.a) (c.args.b) c.loop-piece.i c.next_piece-next.ensures c.in-Piece.piece c.in-Piece.after c.in-Piece.is))).0)
+    let a = c.args in
+    let found = was-found a.present a.table.now a.a a.b c.loop-piece.i c.next_piece-next.ensures c.in-Piece.piece
+    c.in-Piece.after c.in-Piece.is in
+    let sums = shown a.present a.table.now a.a a.b a.out.now c.loop-piece.out c.loop-piece.i c.loop-piece.k
+    c.loop-piece.invariant c.in-Piece.piece c.in-Piece.after found in
+    omega (arith, sums.0)
 
 pub bounds-out-k : goal.bounds-out-k
 bounds-out-k c =
-    omega (arith, (room-here (c.args.present) (c.args.table.now) (c.args.a) (c.args.b) c.args.out.now c.loop-piece.out c.loop-piece.i c.loop-piece.k c.loop-piece.invariant c.in-Piece.piece c.in-Piece.after (was-found (c.args.present) (c.args.table.now) (c.args.a) (c.args.b) c.loop-piece.i c.next_piece-next.ensures c.in-Piece.piece c.in-Piece.after c.in-Piece.is)))
+    let a = c.args in
+    let found = was-found a.present a.table.now a.a a.b c.loop-piece.i c.next_piece-next.ensures c.in-Piece.piece
+    c.in-Piece.after c.in-Piece.is in
+    let here = room-here a.present a.table.now a.a a.b a.out.now c.loop-piece.out c.loop-piece.i c.loop-piece.k
+    c.loop-piece.invariant c.in-Piece.piece c.in-Piece.after found in
+    omega (arith, here)
 
 pub beside_start-requires : goal.beside_start-requires
 beside_start-requires c =
-    ((was-found (c.args.present) (c.args.table.now) (c.args.a) (c.args.b) c.loop-piece.i c.next_piece-next.ensures c.in-Piece.piece c.in-Piece.after c.in-Piece.is)).small
+    let a = c.args in
+    let found = was-found a.present a.table.now a.a a.b c.loop-piece.i c.next_piece-next.ensures c.in-Piece.piece
+    c.in-Piece.after c.in-Piece.is in
+    found.small
 
 pub overflow_cast-out-in-Piece : goal.overflow_cast-out-in-Piece
 overflow_cast-out-in-Piece c =
-    omega (arith, c.beside_start.ensures, ((shown (c.args.present) (c.args.table.now) (c.args.a) (c.args.b) c.args.out.now c.loop-piece.out c.loop-piece.i c.loop-piece.k c.loop-piece.invariant c.in-Piece.piece c.in-Piece.after (was-found (c.args.present) (c.args.table.now) (c.args.a) (c.args.b) c.loop-piece.i c.next_piece-next.ensures c.in-Piece.piece c.in-Piece.after c.in-Piece.is))).1)
+    let a = c.args in
+    let found = was-found a.present a.table.now a.a a.b c.loop-piece.i c.next_piece-next.ensures c.in-Piece.piece
+    c.in-Piece.after c.in-Piece.is in
+    let sums = shown a.present a.table.now a.a a.b a.out.now c.loop-piece.out c.loop-piece.i c.loop-piece.k
+    c.loop-piece.invariant c.in-Piece.piece c.in-Piece.after found in
+    omega (arith, c.beside_start.ensures, sums.1)
 
 pub bounds-out-k-in-Piece : goal.bounds-out-k-in-Piece
 bounds-out-k-in-Piece c =
-    simp length-set (omega (arith, (room-here (c.args.present) (c.args.table.now) (c.args.a) (c.args.b) c.args.out.now c.loop-piece.out c.loop-piece.i c.loop-piece.k c.loop-piece.invariant c.in-Piece.piece c.in-Piece.after (was-found (c.args.present) (c.args.table.now) (c.args.a) (c.args.b) c.loop-piece.i c.next_piece-next.ensures c.in-Piece.piece c.in-Piece.after c.in-Piece.is))))
+    let a = c.args in
+    let found = was-found a.present a.table.now a.a a.b c.loop-piece.i c.next_piece-next.ensures c.in-Piece.piece
+    c.in-Piece.after c.in-Piece.is in
+    let here = room-here a.present a.table.now a.a a.b a.out.now c.loop-piece.out c.loop-piece.i c.loop-piece.k
+    c.loop-piece.invariant c.in-Piece.piece c.in-Piece.after found in
+    simp length-set (omega (arith, here))
 
 pub loop-piece-smaller : goal.loop-piece-smaller
 loop-piece-smaller c =
-    (nearer (c.args.present) (c.args.table.now) (c.args.a) (c.args.b) c.loop-piece.i c.next_piece-next.ensures c.in-Piece.piece c.in-Piece.after c.in-Piece.is)
+    let a = c.args in
+    nearer a.present a.table.now a.a a.b c.loop-piece.i c.next_piece-next.ensures c.in-Piece.piece c.in-Piece.after
+    c.in-Piece.is
 
 pub loop-piece-preserved : goal.loop-piece-preserved
 loop-piece-preserved c =
-    rw c.beside_start.ensures
-    (filling-more (c.args.present) (c.args.table.now) (c.args.a) (c.args.b) c.args.out.now c.loop-piece.out c.loop-piece.i c.loop-piece.k
-    c.loop-piece.invariant (c.in-Piece.piece) (c.in-Piece.after) ((was-found (c.args.present) (c.args.table.now) (c.args.a) (c.args.b) c.loop-piece.i c.next_piece-next.ensures c.in-Piece.piece c.in-Piece.after c.in-Piece.is)))
+    let a = c.args in
+    let found = was-found a.present a.table.now a.a a.b c.loop-piece.i c.next_piece-next.ensures c.in-Piece.piece
+    c.in-Piece.after c.in-Piece.is in
+    let more = filling-more a.present a.table.now a.a a.b a.out.now c.loop-piece.out c.loop-piece.i c.loop-piece.k
+    c.loop-piece.invariant c.in-Piece.piece c.in-Piece.after found in
+    rw c.beside_start.ensures more
 
 pub shape_of-out-in-End : goal.shape_of-out-in-End
 shape_of-out-in-End c =
@@ -54,6 +82,7 @@ shape_of-out-in-End c =
 
 pub returns-in-End : goal.returns-in-End
 returns-in-End c =
-    filling-last (c.args.present) (c.args.table.now) (c.args.a) (c.args.b) c.args.out.now c.loop-piece.out c.loop-piece.i c.loop-piece.k
-    c.loop-piece.invariant
-    (was-end (c.args.present) (c.args.table.now) (c.args.a) (c.args.b) c.loop-piece.i c.next_piece-next.ensures c.in-End.is)
+    let a = c.args in
+    let end = was-end a.present a.table.now a.a a.b c.loop-piece.i c.next_piece-next.ensures c.in-End.is in
+    filling-last a.present a.table.now a.a a.b a.out.now c.loop-piece.out c.loop-piece.i c.loop-piece.k
+    c.loop-piece.invariant end

@@ -8,11 +8,13 @@ use Rattle.pe.proofs.extent.extent_at.Goals as goal
 
 pub overflow_add-at-2 : goal.overflow_add-at-2
 overflow_add-at-2 c =
-    omega (arith, (let it : c.size_in_header-field.result ≤ 16 = rw c.size_in_header-field.ensures (size-inside c.args.by) in it))
+    let here : c.size_in_header-field.result ≤ 16 = rw c.size_in_header-field.ensures (size-inside c.args.by) in
+    omega (arith, here)
 
 pub u32_at-size-requires : goal.u32_at-size-requires
 u32_at-size-requires c =
-    omega (arith, (let it : c.size_in_header-field.result ≤ 16 = rw c.size_in_header-field.ensures (size-inside c.args.by) in it))
+    let here : c.size_in_header-field.result ≤ 16 = rw c.size_in_header-field.ensures (size-inside c.args.by) in
+    omega (arith, here)
 
 pub returns-then-size-eq0 : goal.returns-then-size-eq0
 returns-then-size-eq0 c =

@@ -12,9 +12,11 @@ returns-in-Refused c =
 pub returns-then-table-place : goal.returns-then-table-place
 returns-then-table-place c =
     let a = c.args in
-    header-past a.table.now a.place ((sym (ap told_checked c.in_default.is) ∙ c.section_shape-shaped.ensures)) c.if-table-place.true
+    header-past a.table.now a.place (sym (ap told_checked c.in_default.is) ∙ c.section_shape-shaped.ensures)
+    c.if-table-place.true
 
 pub returns : goal.returns
 returns c =
     let a = c.args in
-    header-there a.table.now a.place ((sym (ap told_checked c.in_default.is) ∙ c.section_shape-shaped.ensures)) c.if-table-place.false
+    header-there a.table.now a.place (sym (ap told_checked c.in_default.is) ∙ c.section_shape-shaped.ensures)
+    c.if-table-place.false

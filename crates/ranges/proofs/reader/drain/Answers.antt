@@ -32,10 +32,11 @@ pub loop-k-preserved : goal.loop-k-preserved
 loop-k-preserved c =
     let held = c.loop-k.invariant in
     let w = held.1.1 in
-    let told : c.taken-t.result ≡ as_taken (step_spec c.args.present c.args.table.now c.loop-k.r.cursor)
-    = rw (held.0, held.1.0) at (c.taken-t.ensures ∙ ap as_taken c.next.ensures) in
+    let told : c.taken-t.result ≡ as_taken (step_spec c.args.present c.args.table.now c.loop-k.r.cursor) = rw
+    (held.0, held.1.0) at (c.taken-t.ensures ∙ ap as_taken c.next.ensures) in
     let two = taken-from (writing-on w (omega arith)) (some_left w (omega arith)) told in
-    let on = writing-two w c.taken-t.result.next (λ _. two.yields) c.taken-t.result.start c.taken-t.result.end two.split in
+    let on = writing-two w c.taken-t.result.next (λ _. two.yields) c.taken-t.result.start c.taken-t.result.end
+    two.split in
     let m = c.moved-r.ensures in
     (m.0 ∙ held.0, (rw m.1.0 held.1.0, rw m.1.1 on))
 

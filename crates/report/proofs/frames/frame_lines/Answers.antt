@@ -14,18 +14,25 @@ loop-frame-init c =
 
 pub frame_line-k-requires : goal.frame_line-k-requires
 frame_line-k-requires c =
-    listing-room (c.args.old.now) (c.args.new.now) (c.args.out.now) c.args.at c.args.n c.requires.0 c.loop-frame.invariant
-    ((by-step (c.args.old.now) (c.args.new.now) (c.loop-frame.cursor) _ _ ((sym (ap told_step c.in-Frame.is) ∙ c.step-step.ensures)))) c.requires.1
+    let a = c.args in
+    let step = by-step a.old.now a.new.now c.loop-frame.cursor _ _ (sym (ap told_step c.in-Frame.is) ∙
+    c.step-step.ensures) in
+    listing-room a.old.now a.new.now a.out.now a.at a.n c.requires.0 c.loop-frame.invariant step c.requires.1
 
 pub loop-frame-smaller : goal.loop-frame-smaller
 loop-frame-smaller c =
-    omega (arith, ap length ((by-step (c.args.old.now) (c.args.new.now) (c.loop-frame.cursor) _ _ ((sym (ap told_step c.in-Frame.is) ∙ c.step-step.ensures)))).first)
+    let step = by-step c.args.old.now c.args.new.now c.loop-frame.cursor _ _ (sym (ap told_step c.in-Frame.is) ∙
+    c.step-step.ensures) in
+    omega (arith, ap length step.first)
 
 pub loop-frame-preserved : goal.loop-frame-preserved
 loop-frame-preserved c =
+    let a = c.args in
+    let step = by-step a.old.now a.new.now c.loop-frame.cursor _ _ (sym (ap told_step c.in-Frame.is) ∙
+    c.step-step.ensures) in
     let line = c.frame_line-k.ensures in
-    listing-more (c.args.old.now) (c.args.new.now) (c.args.out.now) c.args.at c.args.n c.requires.0 c.loop-frame.invariant
-    ((by-step (c.args.old.now) (c.args.new.now) (c.loop-frame.cursor) _ _ ((sym (ap told_step c.in-Frame.is) ∙ c.step-step.ensures)))) line.wrote line.upper_bound
+    listing-more a.old.now a.new.now a.out.now a.at a.n c.requires.0 c.loop-frame.invariant step line.wrote
+    line.upper_bound
 
 pub shape_of-out-in-End : goal.shape_of-out-in-End
 shape_of-out-in-End c =
@@ -45,7 +52,12 @@ shape_of-out-in-Refused c =
 
 pub returns-in-Refused : goal.returns-in-Refused
 returns-in-Refused c =
-    absurd ((no-refusal c.args.old.now c.args.new.now c.args.out.now c.args.at c.args.n c.requires.0 c.loop-frame.invariant (number c.in-Refused.field-0) (refusal-told c.args.old.now c.args.new.now c.loop-frame.cursor 0 (number c.in-Refused.field-0) c.in-Refused.field-1 ((sym (ap told_step c.in-Refused.is) ∙ c.step-step.ensures)))))
+    let a = c.args in
+    let told = refusal-told a.old.now a.new.now c.loop-frame.cursor 0 (number c.in-Refused.field-0)
+    c.in-Refused.field-1 (sym (ap told_step c.in-Refused.is) ∙ c.step-step.ensures) in
+    let refusal = no-refusal a.old.now a.new.now a.out.now a.at a.n c.requires.0 c.loop-frame.invariant (number
+    c.in-Refused.field-0) told in
+    absurd refusal
 
 pub shape_of-out-in-TooLarge : goal.shape_of-out-in-TooLarge
 shape_of-out-in-TooLarge c =
@@ -53,4 +65,8 @@ shape_of-out-in-TooLarge c =
 
 pub returns-in-TooLarge : goal.returns-in-TooLarge
 returns-in-TooLarge c =
-    absurd ((no-refusal c.args.old.now c.args.new.now c.args.out.now c.args.at c.args.n c.requires.0 c.loop-frame.invariant 4 (refusal-told c.args.old.now c.args.new.now c.loop-frame.cursor 0 4 c.in-TooLarge.field-0 ((sym (ap told_step c.in-TooLarge.is) ∙ c.step-step.ensures)))))
+    let a = c.args in
+    let told = refusal-told a.old.now a.new.now c.loop-frame.cursor 0 4 c.in-TooLarge.field-0 (sym (ap told_step
+    c.in-TooLarge.is) ∙ c.step-step.ensures) in
+    let refusal = no-refusal a.old.now a.new.now a.out.now a.at a.n c.requires.0 c.loop-frame.invariant 4 told in
+    absurd refusal

@@ -42,10 +42,11 @@ returns c =
     let o = rw c.u32_at-old_length.ensures at c.if-old_length-input.false in
     let m : 4 + n - 4 ≡ n = omega arith in
     let w = c.tables_text in
-    printed frames_room c.if-out-lt-FRAMES_ROOM.false
-    (rw (whole-frames s c.if-input-lt4.false c.if-input-gt65536.false o, e, ← (part-from (4 + n) s))
-    (subst
-    (λ (x : ℕ).
-    Wrote (frames_printed (frames_or_refusal (take x (drop 4 s)) (take (length s - (4 + n)) (drop (4 + n) s)))) (c.args.out.now) 0
-    w.result w.new.out)
-    m w.ensures))
+    printed frames_room c.if-out-lt-FRAMES_ROOM.false (rw (
+      whole-frames s c.if-input-lt4.false
+          c.if-input-gt65536.false o,
+      e,
+      ← (part-from (4 + n) s),
+    ) (subst (λ (x : ℕ). Wrote (frames_printed
+    (frames_or_refusal (take x (drop 4 s)) (take (length s - (4 + n)) (drop (4 + n) s)))) c.args.out.now 0 w.result
+    w.new.out) m w.ensures))

@@ -7,7 +7,13 @@ use Rattle.report.proofs.frames.listing.Goals as goal
 pub numbered-requires : goal.numbered-requires
 numbered-requires c =
     let n = c.args.n in
-    omega (arith, c.frame_lines-last.ensures.upper_bound, c.put_bytes-first.ensures.place, places-most 3 n (omega arith))
+    omega (
+      arith,
+      c.frame_lines-last.ensures.upper_bound,
+      c.put_bytes-first.ensures.place,
+      places-most 3 n (omega
+          arith),
+    )
 
 pub returns : goal.returns
 returns c =

@@ -9,8 +9,11 @@ use Rattle.report.proofs.frames.tables_text.Goals as goal
 
 pub listing-requires : goal.listing-requires
 listing-requires c =
-    let all = (counted-all c.args.old.now c.args.new.now c.in-Frames.n (sym (ap told_tallied c.in-Frames.is) ∙ c.tally-tallied.ensures)) in
-    (all, (omega (arith, few-frames (c.args.old.now) (c.args.new.now) all), omega arith))
+    let a = c.args in
+    let all_2 = counted-all a.old.now a.new.now c.in-Frames.n (sym (ap told_tallied c.in-Frames.is) ∙
+    c.tally-tallied.ensures) in
+    let all = all_2 in
+    (all, (omega (arith, few-frames a.old.now a.new.now all), omega arith))
 
 pub refused-requires : goal.refused-requires
 refused-requires c =
@@ -18,17 +21,20 @@ refused-requires c =
 
 pub returns-in-Frames : goal.returns-in-Frames
 returns-in-Frames c =
-    rw (all-frames (c.args.old.now) (c.args.new.now) ((counted-all c.args.old.now c.args.new.now c.in-Frames.n (sym (ap told_tallied c.in-Frames.is) ∙ c.tally-tallied.ensures))))
-    c.listing.ensures
+    let a = c.args in
+    let all = counted-all a.old.now a.new.now c.in-Frames.n (sym (ap told_tallied c.in-Frames.is) ∙
+    c.tally-tallied.ensures) in
+    rw (all-frames a.old.now a.new.now all) c.listing.ensures
 
 pub returns-in-Refused : goal.returns-in-Refused
 returns-in-Refused c =
     let why = c.in-Refused.why in
-    let is = (refused-frames (frames_or_refusal c.args.old.now c.args.new.now) (number why) (sym refl ∙ sym (ap told_tallied c.in-Refused.is) ∙ c.tally-tallied.ensures)) in
-    rw (is, ← c.refusal_number.ensures)
-    c.refused.ensures
+    let is = (refused-frames (frames_or_refusal c.args.old.now c.args.new.now) (number why) (sym refl ∙ sym (ap
+    told_tallied c.in-Refused.is) ∙ c.tally-tallied.ensures)) in
+    rw (is, ← c.refusal_number.ensures) c.refused.ensures
 
 pub returns-in-TooLarge : goal.returns-in-TooLarge
 returns-in-TooLarge c =
-    rw ((refused-frames (frames_or_refusal c.args.old.now c.args.new.now) 4 (sym refl ∙ sym (ap told_tallied c.in-TooLarge.is) ∙ c.tally-tallied.ensures)))
-    c.refused-in-TooLarge.ensures
+    let frames_2 = refused-frames (frames_or_refusal c.args.old.now c.args.new.now) 4 (sym refl ∙ sym (ap
+    told_tallied c.in-TooLarge.is) ∙ c.tally-tallied.ensures) in
+    rw frames_2 c.refused-in-TooLarge.ensures

@@ -14,27 +14,40 @@ loop-next-init c =
 
 pub overflow_add-n : goal.overflow_add-n
 overflow_add-n c =
-    omega (arith, ap length ((by-step (c.args.old.now) (c.args.new.now) (c.loop-next.cursor) _ _ ((sym (ap told_step c.in-Frame.is) ∙ c.step-step.ensures)))).first)
+    let step = by-step c.args.old.now c.args.new.now c.loop-next.cursor _ _ (sym (ap told_step c.in-Frame.is) ∙
+    c.step-step.ensures) in
+    omega (arith, ap length step.first)
 
 pub loop-next-smaller : goal.loop-next-smaller
 loop-next-smaller c =
-    omega (arith, ap length ((by-step (c.args.old.now) (c.args.new.now) (c.loop-next.cursor) _ _ ((sym (ap told_step c.in-Frame.is) ∙ c.step-step.ensures)))).first)
+    let step = by-step c.args.old.now c.args.new.now c.loop-next.cursor _ _ (sym (ap told_step c.in-Frame.is) ∙
+    c.step-step.ensures) in
+    omega (arith, ap length step.first)
 
 pub loop-next-preserved : goal.loop-next-preserved
-loop-next-preserved c = (
-  sym (one_more (c.args.old.now) (c.args.new.now) (c.loop-next.cursor) (c.loop-next.n) ((by-step (c.args.old.now) (c.args.new.now) (c.loop-next.cursor) _ _ ((sym (ap told_step c.in-Frame.is) ∙ c.step-step.ensures))))) ∙ c.loop-next.invariant.0,
-  omega (arith, ap length ((by-step (c.args.old.now) (c.args.new.now) (c.loop-next.cursor) _ _ ((sym (ap told_step c.in-Frame.is) ∙ c.step-step.ensures)))).first),
-)
+loop-next-preserved c =
+    let a = c.args in
+    let step = by-step a.old.now a.new.now c.loop-next.cursor _ _ (sym (ap told_step c.in-Frame.is) ∙
+    c.step-step.ensures) in
+    let one_more_2 = one_more a.old.now a.new.now c.loop-next.cursor c.loop-next.n step in (
+      sym one_more_2 ∙ c.loop-next.invariant.0,
+      omega (arith, ap length step.first),
+    )
 
 pub returns-in-End : goal.returns-in-End
 returns-in-End c =
-    sym (all_told (c.args.old.now) (c.args.new.now) (c.loop-next.cursor) (c.loop-next.n) c.in-End.field-0 ((sym (ap told_step c.in-End.is) ∙ c.step-step.ensures)))
-    ∙ c.loop-next.invariant.0
+    let all_told_2 = all_told c.args.old.now c.args.new.now c.loop-next.cursor c.loop-next.n c.in-End.field-0 (sym
+    (ap told_step c.in-End.is) ∙ c.step-step.ensures) in
+    sym all_told_2 ∙ c.loop-next.invariant.0
 
 pub returns-in-Refused : goal.returns-in-Refused
 returns-in-Refused c =
-    (sym (refusal-told c.args.old.now c.args.new.now c.loop-next.cursor c.loop-next.n (number c.in-Refused.why) c.in-Refused.field-1 ((sym (ap told_step c.in-Refused.is) ∙ c.step-step.ensures))) ∙ c.loop-next.invariant.0)
+    let told = refusal-told c.args.old.now c.args.new.now c.loop-next.cursor c.loop-next.n (number c.in-Refused.why)
+    c.in-Refused.field-1 (sym (ap told_step c.in-Refused.is) ∙ c.step-step.ensures) in
+    sym told ∙ c.loop-next.invariant.0
 
 pub returns-in-TooLarge : goal.returns-in-TooLarge
 returns-in-TooLarge c =
-    (sym (refusal-told c.args.old.now c.args.new.now c.loop-next.cursor c.loop-next.n 4 c.in-TooLarge.field-0 ((sym (ap told_step c.in-TooLarge.is) ∙ c.step-step.ensures))) ∙ c.loop-next.invariant.0)
+    let told = refusal-told c.args.old.now c.args.new.now c.loop-next.cursor c.loop-next.n 4 c.in-TooLarge.field-0
+    (sym (ap told_step c.in-TooLarge.is) ∙ c.step-step.ensures) in
+    sym told ∙ c.loop-next.invariant.0

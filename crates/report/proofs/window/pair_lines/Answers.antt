@@ -13,14 +13,25 @@ loop-i-init c =
 
 pub pair_line-k-requires : goal.pair_line-k-requires
 pair_line-k-requires c =
-    let room
-    = left-room (pair_line ((get_or c.args.pairs.now (2 * c.loop-i.i) 0)) ((get_or c.args.pairs.now (2 * c.loop-i.i + 1) 0))) ((pair_lines (drop (2 * (c.loop-i.i + 1)) c.args.pairs.now))) c.loop-i.invariant.1 ((pair-less c.args.pairs.now c.loop-i.i (omega arith))) c.requires in
-    omega (arith, length-pair ((get_or c.args.pairs.now (2 * c.loop-i.i) 0)) ((get_or c.args.pairs.now (2 * c.loop-i.i + 1) 0)), room)
+    let a = c.args in
+    let room = left-room (pair_line (get_or a.pairs.now (2 * c.loop-i.i) 0) (get_or a.pairs.now (2 * c.loop-i.i + 1)
+    0)) (pair_lines (drop (2 * (c.loop-i.i + 1)) a.pairs.now)) c.loop-i.invariant.1 (pair-less a.pairs.now c.loop-i.i
+    (omega arith)) c.requires in
+    omega (
+      arith,
+      length-pair (get_or a.pairs.now (2 * c.loop-i.i) 0) (get_or a.pairs.now (2 * c.loop-i.i + 1) 0),
+      room,
+    )
 
 pub loop-i-preserved : goal.loop-i-preserved
 loop-i-preserved c =
-    let line = c.pair_line-k.ensures in
-    (omega arith, left-more (pair_line ((get_or c.args.pairs.now (2 * c.loop-i.i) 0)) ((get_or c.args.pairs.now (2 * c.loop-i.i + 1) 0))) ((pair_lines (drop (2 * (c.loop-i.i + 1)) c.args.pairs.now))) c.loop-i.invariant.1 ((pair-less c.args.pairs.now c.loop-i.i (omega arith))) line)
+    let a = c.args in
+    let line = c.pair_line-k.ensures in (
+      omega arith,
+      left-more (pair_line (get_or a.pairs.now (2 * c.loop-i.i) 0) (get_or a.pairs.now (2 * c.loop-i.i +
+          1) 0)) (pair_lines (drop (2 * (c.loop-i.i + 1)) a.pairs.now)) c.loop-i.invariant.1 (pair-less a.pairs.now
+          c.loop-i.i (omega arith)) line,
+    )
 
 pub shape_of-out : goal.shape_of-out
 shape_of-out c =

@@ -39,26 +39,29 @@ refused-requires c =
 
 pub returns-in-Pieces : goal.returns-in-Pieces
 returns-in-Pieces c =
+    let a = c.args in
+    let text = pieces-text a.table.now a.a a.b zeros c.window-windowed.new.out c.in-Pieces.n (enough a.table.now
+    c.requires.0) (sym (ap told_windowed c.in-Pieces.is) ∙ c.window-windowed.ensures.0) c.window-windowed.ensures.1 in
     let w = c.pieces_text in
-    subst (λ (x : List ℕ). Wrote x (c.args.out.now) 0 w.result w.new.out)
-    (pieces-text (c.args.table.now) (c.args.a) (c.args.b) zeros c.window-windowed.new.out c.in-Pieces.n
-    (enough c.args.table.now c.requires.0) ((sym (ap told_windowed c.in-Pieces.is) ∙ c.window-windowed.ensures.0)) (c.window-windowed.ensures.1))
-    w.ensures
+    subst (λ (x : List ℕ). Wrote x a.out.now 0 w.result w.new.out) text w.ensures
 
 pub returns-in-Refused : goal.returns-in-Refused
 returns-in-Refused c =
+    let a = c.args in
     let w = c.refused in
-    subst (λ (x : List ℕ). Wrote x (c.args.out.now) 0 w.result w.new.out)
-    (ap refused_text c.refusal_number.ensures ∙ text c.args.table.now c.args.a c.args.b c.requires.0 (sym (ap told_windowed c.in-Refused.is) ∙ c.window-windowed.ensures.0))
-    w.ensures
+    subst (λ (x : List ℕ). Wrote x a.out.now 0 w.result w.new.out) (ap refused_text c.refusal_number.ensures ∙ text
+    a.table.now a.a a.b c.requires.0 (sym (ap told_windowed c.in-Refused.is) ∙ c.window-windowed.ensures.0)) w.ensures
 
 pub returns-in-TooLarge : goal.returns-in-TooLarge
 returns-in-TooLarge c =
+    let a = c.args in
     let w = c.refused-in-TooLarge in
-    subst (λ (x : List ℕ). Wrote x (c.args.out.now) 0 w.result w.new.out) (text c.args.table.now c.args.a c.args.b c.requires.0 (sym (ap told_windowed c.in-TooLarge.is) ∙ c.window-windowed.ensures.0)) w.ensures
+    subst (λ (x : List ℕ). Wrote x a.out.now 0 w.result w.new.out) (text a.table.now a.a a.b c.requires.0 (sym (ap
+    told_windowed c.in-TooLarge.is) ∙ c.window-windowed.ensures.0)) w.ensures
 
 pub returns-in-Short : goal.returns-in-Short
 returns-in-Short c =
+    let a = c.args in
     let w = c.refused-in-Short in
-    subst (λ (x : List ℕ). Wrote x (c.args.out.now) 0 w.result w.new.out) (text c.args.table.now c.args.a c.args.b c.requires.0 (sym (ap told_windowed c.in-Short.is) ∙ c.window-windowed.ensures.0))
-    w.ensures
+    subst (λ (x : List ℕ). Wrote x a.out.now 0 w.result w.new.out) (text a.table.now a.a a.b c.requires.0 (sym (ap
+    told_windowed c.in-Short.is) ∙ c.window-windowed.ensures.0)) w.ensures

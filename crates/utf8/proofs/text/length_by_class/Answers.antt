@@ -74,7 +74,8 @@ pub returns-then-not-follows : goal.returns-then-not-follows
 returns-then-not-follows c =
     let byte = c.shared_slice_known-in-loop-i-2-1.given c.loop-i-2.i in
     let told = sym c.if-not-follows.true ∙ c.follows.ensures in
-    wrong-by-class (omega arith) (omega (arith, byte)) c.loop-i-2.follow (tails c.loop-i-2.more) c.loop-i-2.invariant told
+    wrong-by-class (omega arith) (omega (arith, byte)) c.loop-i-2.follow (tails c.loop-i-2.more) c.loop-i-2.invariant
+    told
 
 pub loop-i-smaller : goal.loop-i-smaller
 loop-i-smaller c =

@@ -33,11 +33,17 @@ returns-in-Piece c =
 
 pub loop-self-smaller : goal.loop-self-smaller
 loop-self-smaller c =
-    ((let it : Onward c.if_present-records.result.now c.args.self c.loop-self.self c.in-Skip.next = skipped c.if_present-records.result.now c.args.self c.loop-self.self c.in-Skip.next (omega arith) (sym c.in-Skip.is ∙ c.pull-turned.ensures) in it)).less
+    let here : Onward c.if_present-records.result.now c.args.self c.loop-self.self c.in-Skip.next = skipped
+    c.if_present-records.result.now c.args.self c.loop-self.self c.in-Skip.next (omega arith) (sym c.in-Skip.is ∙
+    c.pull-turned.ensures) in
+    here.less
 
 pub loop-self-preserved : goal.loop-self-preserved
 loop-self-preserved c =
-    c.loop-self.invariant ∙ ((let it : Onward c.if_present-records.result.now c.args.self c.loop-self.self c.in-Skip.next = skipped c.if_present-records.result.now c.args.self c.loop-self.self c.in-Skip.next (omega arith) (sym c.in-Skip.is ∙ c.pull-turned.ensures) in it)).same
+    let here : Onward c.if_present-records.result.now c.args.self c.loop-self.self c.in-Skip.next = skipped
+    c.if_present-records.result.now c.args.self c.loop-self.self c.in-Skip.next (omega arith) (sym c.in-Skip.is ∙
+    c.pull-turned.ensures) in
+    c.loop-self.invariant ∙ here.same
 
 pub returns-in-Early : goal.returns-in-Early
 returns-in-Early c =
