@@ -30,9 +30,11 @@ ready() { # [c|x86-64|native]
     export GILLACORN_LIB
 }
 
-# A file of the crates' sources that is newer than what was made of them; what `rt` keeps in out/ is none.
+# A source of the crates, or a folder of them, that is newer than what was made of them. What `rt` keeps in out/ is none,
+# nor is a crate's own folder, where out/ comes and goes.
 newer() { # what was made
-    find "$repository/crates" "$repository/crates.txt" -name out -prune -o -type f -newer "$1" -print -quit
+    find "$repository/crates.txt" -newer "$1" -print -quit
+    find "$repository/crates" -mindepth 2 -name out -prune -o -newer "$1" -print -quit
 }
 
 # target/staticlib/libgillacorn.a takes a proof to make: once for all scripts, until a source is newer.

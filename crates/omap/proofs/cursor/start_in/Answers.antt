@@ -74,6 +74,6 @@ returns c =
     let rises = in_order a.table.now (sym (sym (ap told_checked c.in_default.is) ∙
     c.omap_check-checked.ensures)) in
     let above = found-above 8 a.table.now a.a rises c.binary_search-found.result c.binary_search-found.ensures in
-    let record_2 = start-record a.table.now a.a a.b (sym (ap told_checked c.in_default.is) ∙
+    let started = start-record a.table.now a.a a.b (sym (ap told_checked c.in_default.is) ∙
     c.omap_check-checked.ensures) (omega arith) c.binary_search-found.result.place (omega arith) (above) in
-    rw (c.u32_at.ensures, c.u32_at-2.ensures) record_2
+    rw (c.u32_at.ensures, c.u32_at-2.ensures) started

@@ -12,15 +12,15 @@ use Rattle.omap.proofs.windows.window.Goals as goal
 
 pub fill-requires : goal.fill-requires
 fill-requires c =
-    let counted_2 = was-counted c.args.present c.args.table.now c.args.a c.args.b c.in-Pieces.n (sym (ap told_counted
+    let pieces = was-counted c.args.present c.args.table.now c.args.a c.args.b c.in-Pieces.n (sym (ap told_counted
     c.in-Pieces.is) ∙ c.count-counted.ensures) in
     let a = c.args in (
-      counted_2.order,
+      pieces.order,
       (
-        counted_2.fit,
+        pieces.fit,
         omega (
           arith,
-          counted_2.number,
+          pieces.number,
           length-flat (window_pieces a.present
               a.table.now a.a a.b),
         ),
@@ -49,17 +49,17 @@ returns-in-TooLarge c =
 pub returns-then-n-out : goal.returns-then-n-out
 returns-then-n-out c =
     let a = c.args in
-    let counted_2 = was-counted c.args.present c.args.table.now c.args.a c.args.b c.in-Pieces.n (sym (ap told_counted
+    let pieces = was-counted c.args.present c.args.table.now c.args.a c.args.b c.in-Pieces.n (sym (ap told_counted
     c.in-Pieces.is) ∙ c.count-counted.ensures) in
     let s = a.table.now in
     answered a.present s a.a a.b a.out.now (counted c.in-Pieces.n) (answer-pieces a.present s a.a a.b (length
-    a.out.now / 2) c.in-Pieces.n counted_2 (omega arith)) c.fill.new.out c.fill.ensures
+    a.out.now / 2) c.in-Pieces.n pieces (omega arith)) c.fill.new.out c.fill.ensures
 
 pub returns-else-n-out : goal.returns-else-n-out
 returns-else-n-out c =
     let a = c.args in
-    let counted_2 = was-counted c.args.present c.args.table.now c.args.a c.args.b c.in-Pieces.n (sym (ap told_counted
+    let pieces = was-counted c.args.present c.args.table.now c.args.a c.args.b c.in-Pieces.n (sym (ap told_counted
     c.in-Pieces.is) ∙ c.count-counted.ensures) in
     let s = a.table.now in
     answered a.present s a.a a.b a.out.now (refused_for 5 c.in-Pieces.n) (answer-short a.present s a.a a.b (length
-    a.out.now / 2) c.in-Pieces.n counted_2 (omega arith)) a.out.now refl
+    a.out.now / 2) c.in-Pieces.n pieces (omega arith)) a.out.now refl

@@ -10,9 +10,9 @@ use Rattle.report.proofs.frames.tables_text.Goals as goal
 pub listing-requires : goal.listing-requires
 listing-requires c =
     let a = c.args in
-    let all_2 = counted-all a.old.now a.new.now c.in-Frames.n (sym (ap told_tallied c.in-Frames.is) ∙
+    let total = counted-all a.old.now a.new.now c.in-Frames.n (sym (ap told_tallied c.in-Frames.is) ∙
     c.tally-tallied.ensures) in
-    let all = all_2 in
+    let all = total in
     (all, (omega (arith, few-frames a.old.now a.new.now all), omega arith))
 
 pub refused-requires : goal.refused-requires
@@ -35,6 +35,6 @@ returns-in-Refused c =
 
 pub returns-in-TooLarge : goal.returns-in-TooLarge
 returns-in-TooLarge c =
-    let frames_2 = refused-frames (frames_or_refusal c.args.old.now c.args.new.now) 4 (sym refl ∙ sym (ap
+    let stated = refused-frames (frames_or_refusal c.args.old.now c.args.new.now) 4 (sym refl ∙ sym (ap
     told_tallied c.in-TooLarge.is) ∙ c.tally-tallied.ensures) in
-    rw frames_2 c.refused-in-TooLarge.ensures
+    rw stated c.refused-in-TooLarge.ensures

@@ -29,16 +29,16 @@ loop-next-preserved c =
     let a = c.args in
     let step = by-step a.old.now a.new.now c.loop-next.cursor _ _ (sym (ap told_step c.in-Frame.is) ∙
     c.step-step.ensures) in
-    let one_more_2 = one_more a.old.now a.new.now c.loop-next.cursor c.loop-next.n step in (
-      sym one_more_2 ∙ c.loop-next.invariant.0,
+    let more = one_more a.old.now a.new.now c.loop-next.cursor c.loop-next.n step in (
+      sym more ∙ c.loop-next.invariant.0,
       omega (arith, ap length step.first),
     )
 
 pub returns-in-End : goal.returns-in-End
 returns-in-End c =
-    let all_told_2 = all_told c.args.old.now c.args.new.now c.loop-next.cursor c.loop-next.n c.in-End.field-0 (sym
+    let ends = all_told c.args.old.now c.args.new.now c.loop-next.cursor c.loop-next.n c.in-End.field-0 (sym
     (ap told_step c.in-End.is) ∙ c.step-step.ensures) in
-    sym all_told_2 ∙ c.loop-next.invariant.0
+    sym ends ∙ c.loop-next.invariant.0
 
 pub returns-in-Refused : goal.returns-in-Refused
 returns-in-Refused c =

@@ -31,7 +31,7 @@ pieces_text-requires c =
     let told = sym (ap told_windowed c.in-Pieces.is) ∙ c.window-windowed.ensures.0 in
     let all = counted-all a.table.now a.a a.b (length zeros / 2) c.in-Pieces.n told in
     let n : c.in-Pieces.n ≤ 8191 = omega (arith, few a.table.now a.a a.b, all) in
-    (omega (arith, length-replicate {A = ℕ} 16384 0), (n, omega arith))
+    (omega (arith, length-replicate {A = ℕ} 16384 0), (omega (arith, n), omega arith))
 
 pub refused-requires : goal.refused-requires
 refused-requires c =
@@ -40,10 +40,10 @@ refused-requires c =
 pub returns-in-Pieces : goal.returns-in-Pieces
 returns-in-Pieces c =
     let a = c.args in
-    let text = pieces-text a.table.now a.a a.b zeros c.window-windowed.new.out c.in-Pieces.n (enough a.table.now
+    let shown = pieces-text a.table.now a.a a.b zeros c.window-windowed.new.out c.in-Pieces.n (enough a.table.now
     c.requires.0) (sym (ap told_windowed c.in-Pieces.is) ∙ c.window-windowed.ensures.0) c.window-windowed.ensures.1 in
     let w = c.pieces_text in
-    subst (λ (x : List ℕ). Wrote x a.out.now 0 w.result w.new.out) text w.ensures
+    subst (λ (x : List ℕ). Wrote x a.out.now 0 w.result w.new.out) shown w.ensures
 
 pub returns-in-Refused : goal.returns-in-Refused
 returns-in-Refused c =
