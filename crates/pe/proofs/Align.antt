@@ -26,9 +26,9 @@ module _ (x : ℕ) where
     no_bits h = rw (no-pad, lt-leb 1 (align_bits x) h)
 
     module _ (some-bit : 1 ≤ align_bits x) where
-      pub all-bits : 14 < align_bits x → nothing ≡ alignment_spec x
+      pub all_bits : 14 < align_bits x → nothing ≡ alignment_spec x
       unfolding alignment_spec
-      all-bits h = rw (no-pad, le-leb 1 (align_bits x) some-bit, lt-leb (align_bits x) 14 h)
+      all_bits h = rw (no-pad, le-leb 1 (align_bits x) some-bit, lt-leb (align_bits x) 14 h)
 
       -- 1 shifted by one less than the bits say
       pub by_bits : align_bits x ≤ 14 → value (1 * 2 ^ (align_bits x - 1) % 65536) ≡ alignment_spec x

@@ -160,6 +160,7 @@ impl SectionCharacteristics {
     }
 
     // The alignment of the section's data. Object files only.
+    #[tactic(auto, using(crate::proofs::Align::all_bits))]
     pub fn alignment(self) -> Alignment
         ensures { told_alignment result ≡ alignment_spec self.0 }
     {

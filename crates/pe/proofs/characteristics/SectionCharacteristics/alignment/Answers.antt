@@ -1,6 +1,6 @@
 use mathlib.Core.Path.{sym, ◌∙◌}
 use native.Mathlib.Omega.{arith}
-use Rattle.pe.proofs.Align.{pad-alone, pad-with-bits, no_bits, all-bits, by_bits}
+use Rattle.pe.proofs.Align.{pad-alone, pad-with-bits, no_bits, all_bits, by_bits}
 use Rattle.pe.proofs.characteristics.SectionCharacteristics.alignment.Goals as goal
 
 pub returns-then-n-eq0 : goal.returns-then-n-eq0
@@ -17,12 +17,6 @@ pub returns-then-n-eq0-2 : goal.returns-then-n-eq0-2
 returns-then-n-eq0-2 c =
     let x = c.args.self.0 in
     no_bits x (sym c.is_set.ensures ∙ c.if-is_set.false) (omega arith)
-
-pub returns-then-n-eq15 : goal.returns-then-n-eq15
-returns-then-n-eq15 c =
-    let x = c.args.self.0 in
-    let no-pad = sym c.is_set.ensures ∙ c.if-is_set.false in
-    all-bits x no-pad (omega arith) (omega arith)
 
 pub returns : goal.returns
 returns c =
