@@ -4,8 +4,8 @@ use mathlib.Core.Path.{◌≡◌, sym, ap, ◌∙◌}
 use Prim.Native.Nat.{ℕ}
 use mathlib.Core.Bool.{cond}
 use lib.Dec.{eqb}
-use Rattle.lent.specs.declared.Refusal.{Refusal}
-use Rattle.lent.specs.declared.Refusal.TheVariants.{Length, Count, Order}
+use Rattle.lent.specs.declared.refusal.Refusal.{Refusal}
+use Rattle.lent.specs.declared.refusal.Refusal.TheVariants.{Length, Count, Order}
 
 -- the refusal of a table by its number
 abbrev pub refusal : ℕ → Refusal

@@ -50,11 +50,11 @@ le-written (suc w) s at b h =
     (ap (λ (l : List ℕ). get_or s at 0 ∷ l) (le-written w s (suc at) b (omega arith)))
 
 -- the four bytes of a number, stored one by one
-pub four-stored : (n : ℕ) (out : List ℕ) (at : ℕ) → n < 4294967296 → at + 4 ≤ length out
+pub four_stored : (n : ℕ) (out : List ℕ) (at : ℕ) → n < 4294967296 → at + 4 ≤ length out
     → Wrote (le_bytes 4 n) out at (at + 4)
     (set (set (set (set out at (n % 256)) (at + 1) (n / 256 % 256)) (at + 2) (n / 65536 % 256)) (at + 3) (n / 16777216))
 unfolding le_bytes
-four-stored n out at h room =
+four_stored n out at h room =
     let third : n / 256 / 256 ≡ n / 65536 = omega arith in
     let fourth : n / 65536 / 256 % 256 ≡ n / 16777216 = omega arith in
     record { place = refl; bytes = rw (third, fourth, add-one, add-two, add-three at); room = room }

@@ -10,3 +10,4 @@ pub mod Determined
 pub mod Shaped
 pub mod Wrote
 pub mod Encoded
+pub mod Marked

@@ -15,7 +15,7 @@ use lib.ListN.{length}
 use borrow.Author.Tests.{le-leb, lt-leb, eq-eqb, ne_eqb}
 use Rattle.lent.specs.Order.{rising, key_at, keys, FirstAbove}
 use Rattle.lent.specs.Search.{Run, middle, after, before, probed, halved, whole, ended, binary_search}
-use Rattle.lent.specs.declared.Searched.{Searched}
+use Rattle.lent.specs.declared.searches.Searched.{Searched}
 use Rattle.lent.proofs.Logic.{lt-or-le}
 use Rattle.lent.proofs.Rising.{in_place}
 

@@ -1,10 +1,10 @@
 -- What document 01 lets an operation answer: a value, none, or a refusal by its number.
-use Rattle.std.specs.Prelude.{ℕ, cond, leb}
+use Rattle.std.specs.Prelude.{ℕ, cond, leb, Result, Ok, Err, Option as Maybe, Some, None}
 use Rattle.std.proofs.Math.Option.{Option, none, some}
-use Rattle.lent.specs.declared.Refusal.{Refusal}
-use Rattle.lent.specs.declared.Refusal.TheVariants.{Length, Count, Order}
-use Rattle.lent.specs.declared.Checked.{Checked}
-use Rattle.lent.specs.declared.Checked.TheVariants as checked
+use Rattle.lent.specs.declared.refusal.Refusal.{Refusal}
+use Rattle.lent.specs.declared.refusal.Refusal.TheVariants.{Length, Count, Order}
+use Rattle.lent.specs.declared.refusal.SumRefusal.{SumRefusal}
+use Rattle.lent.specs.declared.refusal.SumRefusal.TheVariants.{Table, TooLarge}
 
 pub data Told (A : Type 0) : Type 0 where
   value : A → Told A
@@ -38,6 +38,22 @@ number Length = 1
 number Count = 2
 number Order = 3
 
-abbrev pub told_checked : Checked → Option ℕ
-told_checked checked.Good = none
-told_checked (checked.Refused why) = some (number why)
+abbrev pub sum_number : SumRefusal → ℕ
+sum_number (Table why) = number why
+sum_number TooLarge = 4
+
+-- A call's answer, where `number` gives the paper's number of what it may be refused for: a value or none;
+abbrev pub told : {A E : Type 0} → (E → ℕ) → Result (Maybe A) E → Told A
+told number (Ok (Some x)) = value x
+told number (Ok None) = nothing
+told number (Err why) = refused (number why)
+
+-- a value always;
+abbrev pub told_value : {A E : Type 0} → (E → ℕ) → Result A E → Told A
+told_value number (Ok x) = value x
+told_value number (Err why) = refused (number why)
+
+-- a test of a table, which answers nothing but a refusal
+abbrev pub told_fault : Result (Unit {0}) Refusal → Option ℕ
+told_fault (Ok x) = none
+told_fault (Err why) = some (number why)

@@ -1,7 +1,7 @@
 -- The search by halving, on any table, in order or not.
 use Rattle.std.specs.Prelude.{ℕ, zero, suc, ◌+◌, ◌-◌, ◌/◌, cond, List, length, leb, eqb}
 use Rattle.lent.specs.Order.{key_at}
-use Rattle.lent.specs.declared.Searched.{Searched}
+use Rattle.lent.specs.declared.searches.Searched.{Searched}
 
 -- a run of records: the place of its first, how many there are, and how many were probed on the way to it
 pub record Run : Type 0 where

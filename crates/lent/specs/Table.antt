@@ -1,5 +1,7 @@
 -- A table in lent bytes: its kind, its records, and the refusals 1 and 2 that its length gives.
 use Rattle.std.specs.Prelude.{ℕ, zero, suc, ◌/◌, ◌%◌, Bool, cond, List, [], ◌∷◌, length, leb, eqb}
+use Rattle.std.specs.Prelude.{Option as Maybe, Some, None}
+use Rattle.std.specs.Borrow.{Bor}
 use Rattle.std.proofs.Math.Option.{Option, none, some}
 
 -- what f gives at n places, from place i on
@@ -10,6 +12,11 @@ listed f i (suc n) = f i ∷ listed f (suc i) n
 -- a table behind its mark: marked absent, it counts as empty, whatever bytes are lent with it
 abbrev pub if_present : Bool → List ℕ → List ℕ
 if_present present s = cond present s []
+
+-- the bytes of a table that may be absent: of an absent one, none
+abbrev pub bytes_of : Maybe (Bor (List ℕ)) → List ℕ
+bytes_of (Some table) = table.now
+bytes_of None = []
 
 -- a kind of table: bytes a record, and most records
 pub record Kind : Type 0 where

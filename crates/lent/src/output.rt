@@ -8,15 +8,13 @@ pub fn put_bytes(bytes: &[u8], out: &mut [u8], at: usize) -> usize
     requires { at + length bytes.now ≤ length out.old }
     ensures { Wrote bytes.now out.old at result out.new }
 {
-    let mut i = 0;
-    while i < bytes.len() {
-        out[at + i] = bytes[i];
-        i += 1;
-    }
-    at + i
+    let end = at + bytes.len();
+    out[at..end].copy_from_slice(bytes);
+    end
 }
 
 // The four bytes of a number, the least first.
+#[tactic(auto, using(crate::proofs::Encoded::four_stored))]
 pub fn put_u32(value: u32, out: &mut [u8], at: usize) -> usize
     requires { at + 4 ≤ length out.old }
     ensures wrote { Wrote (le_bytes 4 value) out.old at result out.new }

@@ -9,7 +9,7 @@ use Rattle.lent.specs.Le.{le_at}
 use Rattle.lent.specs.Order.{key_at}
 use Rattle.lent.proofs.Place.{inside}
 use Rattle.lent.proofs.Rising.{after-step, rising-first, rising_none, rising-all}
-use Rattle.lent.proofs.in_order.Goals as goal
+use Rattle.lent.proofs.table.in_order.Goals as goal
 
 pub returns-then-n-eq0 : goal.returns-then-n-eq0
 returns-then-n-eq0 c =
@@ -48,10 +48,6 @@ u32_at-key-requires c =
       inside (c.args.width) (length (c.args.table.now)) c.loop-i.i
           (omega arith),
     )
-
-pub overflow_add-i : goal.overflow_add-i
-overflow_add-i c =
-    omega (arith, div-le_self (length (c.args.table.now)) (c.args.width))
 
 pub loop-i-preserved : goal.loop-i-preserved
 loop-i-preserved c =

@@ -5,7 +5,7 @@ use lib.ListN.{length}
 use lib.Dec.{leb}
 use Rattle.lent.proofs.Place.{inside, four-each}
 use Rattle.lent.proofs.Halving.{halving-first, halving-next, halving-done, halving-last}
-use Rattle.lent.proofs.binary_search.Goals as goal
+use Rattle.lent.proofs.searches.binary_search.Goals as goal
 
 pub loop-longest-init : goal.loop-longest-init
 loop-longest-init c =

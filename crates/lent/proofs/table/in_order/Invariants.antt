@@ -5,7 +5,7 @@ use lib.ListN.{length}
 use lib.Dec.{eqb}
 use Rattle.lent.specs.Table.{listed}
 use Rattle.lent.specs.Order.{rising, rising_after, key_at, keys}
-use Rattle.lent.proofs.in_order.Given as goal
+use Rattle.lent.proofs.table.in_order.Given as goal
 
 abbrev pub invariant-loop-i : goal.invariant-loop-i
 invariant-loop-i l = (1 ≤ l.i)

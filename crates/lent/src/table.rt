@@ -1,0 +1,119 @@
+// A table in lent bytes: its kind, and the refusals 1, 2 and 3 that its bytes give by themselves.
+ghost use Rattle.std.specs.Prelude.{◌≡◌, ◌≤◌, ◌<◌, cond, ltb};
+ghost use Rattle.lent.specs.Order.{rising, keys, table_fault};
+ghost use Rattle.lent.specs.Paper.{told_fault};
+ghost use Rattle.lent.specs.Table.{bytes_of, shape_fault};
+
+use crate::fields::u32_at;
+use crate::refusal::Refusal;
+
+// A kind of table, whose records begin with their key of four bytes.
+#[derive(Clone, Copy)]
+pub struct Kind {
+    // The bytes of a record.
+    pub width: usize,
+    // The most records that are allowed.
+    pub most: usize,
+    ghost keyed: { 4 ≤ width },
+}
+
+pub const OMAP: Kind = Kind {
+    width: 8,
+    most: 1048576,
+};
+
+pub const SECTIONS: Kind = Kind {
+    width: 40,
+    most: 65535,
+};
+
+pub const OLD_FRAMES: Kind = Kind {
+    width: 16,
+    most: 1048576,
+};
+
+pub const NEW_FRAMES: Kind = Kind {
+    width: 32,
+    most: 1048576,
+};
+
+// A table that is lent behind a mark, as C lends it: absent, its bytes are not read.
+pub fn if_present(present: bool, table: &[u8]) -> Option<&[u8]>
+    ensures { result ≡ cond present (Some table.entry) None }
+{
+    if present {
+        return Some(table);
+    }
+    None
+}
+
+// The bytes of a table that may be absent: of an absent one, none.
+pub fn bytes_or_none(table: Option<&[u8]>) -> &[u8]
+    ensures { result.now ≡ bytes_of table.entry }
+{
+    table.unwrap_or(&[])
+}
+
+// Whether the length of a table of records of `width` bytes, at most `most` of them, is right.
+#[tactic(auto, unfolding(crate::specs::Table::shape_fault))]
+pub fn shape(table: &[u8], width: usize, most: usize) -> Result<(), Refusal>
+    requires { 0 < width }
+    ensures { told_fault result ≡ shape_fault (record { width = width; most = most }) table.now }
+{
+    if table.len() % width != 0 {
+        return Err(Refusal::Length);
+    }
+    if table.len() / width > most {
+        return Err(Refusal::Count);
+    }
+    Ok(())
+}
+
+// 1 where a key is not above the one before it.
+fn not_above(before: u32, key: u32) -> u32
+    ensures { result ≡ cond (ltb before key) 0 1 }
+{
+    if before < key { 0 } else { 1 }
+}
+
+// Whether each key of a table is greater than the one before it. The loop has no way out in its middle,
+// so that several records are compared at a time.
+pub fn in_order(table: &[u8], width: usize) -> bool
+    requires { 4 ≤ width }
+    ensures { result ≡ rising (keys width table.now) }
+{
+    let n = table.len() / width;
+    if n == 0 {
+        return true;
+    }
+    let mut fault = 0;
+    let mut before = u32_at(table, 0);
+    for i in 1..n {
+        let key = u32_at(table, width * i);
+        fault |= not_above(before, key);
+        before = key;
+    }
+    fault == 0
+}
+
+impl Kind {
+    // Whether a table has right lengths: refusals 1 and 2.
+    pub fn shape(self, table: &[u8]) -> Result<(), Refusal>
+        ensures { told_fault result ≡ shape_fault (record { width = self.width; most = self.most }) table.now }
+    {
+        shape(table, self.width, self.most)
+    }
+
+    // The same, and whether it is in order: refusals 1, 2 and 3.
+    #[tactic(auto, unfolding(crate::specs::Order::table_fault))]
+    pub fn check(self, table: &[u8]) -> Result<(), Refusal>
+        ensures { told_fault result ≡ table_fault (record { width = self.width; most = self.most }) table.now }
+    {
+        self.shape(table)?;
+        if in_order(table, self.width) {
+            Ok(())
+        } else {
+            Err(Refusal::Order)
+        }
+    }
+}
