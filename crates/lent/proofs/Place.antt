@@ -17,8 +17,8 @@ inside w n i h =
     omega (arith, mul-div-le n w)
 
 -- records of four bytes or more: four times their number is no more than the bytes
-pub four-each : (w n : ℕ) → 4 ≤ w → 4 * (n / w) ≤ n
-four-each w n h = omega (arith, mul-le-mul_right (n / w) h, mul-div-le n w)
+pub four_each : (w n : ℕ) → 4 ≤ w → 4 * (n / w) ≤ n
+four_each w n h = omega (arith, mul-le-mul_right (n / w) h, mul-div-le n w)
 
 module _ {A : Type 0} (f : ℕ → A) where
   pub listed-step : (i n : ℕ) → i < n → listed f i (n - i) ≡ f i ∷ listed f (i + 1) (n - (i + 1))

@@ -4,6 +4,7 @@ ghost use Rattle.lent.specs.Le.{le_bytes};
 ghost use Rattle.lent.specs.Room.{Wrote};
 
 // A copy of some bytes.
+#[tactic(auto, using(crate::proofs::Wrote::copied))]
 pub fn put_bytes(bytes: &[u8], out: &mut [u8], at: usize) -> usize
     requires { at + length bytes.now ≤ length out.old }
     ensures { Wrote bytes.now out.old at result out.new }

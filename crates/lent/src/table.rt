@@ -78,6 +78,7 @@ fn not_above(before: u32, key: u32) -> u32
 
 // Whether each key of a table is greater than the one before it. The loop has no way out in its middle,
 // so that several records are compared at a time.
+#[tactic(auto, using(crate::proofs::Place::inside))]
 pub fn in_order(table: &[u8], width: usize) -> bool
     requires { 4 ≤ width }
     ensures { result ≡ rising (keys width table.now) }
@@ -109,8 +110,9 @@ impl Kind {
     pub fn check(self, table: &[u8]) -> Result<(), Refusal>
         ensures { told_fault result ≡ table_fault (record { width = self.width; most = self.most }) table.now }
     {
-        self.shape(table)?;
-        if in_order(table, self.width) {
+        let width = self.width;
+        shape(table, width, self.most)?;
+        if in_order(table, width) {
             Ok(())
         } else {
             Err(Refusal::Order)

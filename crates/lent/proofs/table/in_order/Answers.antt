@@ -16,11 +16,6 @@ returns-then-n-eq0 c =
     let a = c.args in
     sym (rising_none (key_at a.width a.table.now) (length a.table.now / a.width) (omega arith))
 
-pub u32_at-before-requires : goal.u32_at-before-requires
-u32_at-before-requires c =
-    let a = c.args in
-    omega (arith, inside a.width (length a.table.now) 0 (omega arith))
-
 pub loop-i-init : goal.loop-i-init
 loop-i-init c =
     let a = c.args in
@@ -35,18 +30,6 @@ loop-i-init c =
               (rising-first (key_at a.width t) (length t / a.width) (omega arith)),
         ),
       ),
-    )
-
-pub overflow_mul-width : goal.overflow_mul-width
-overflow_mul-width c =
-    omega (arith, inside (c.args.width) (length (c.args.table.now)) c.loop-i.i (omega arith))
-
-pub u32_at-key-requires : goal.u32_at-key-requires
-u32_at-key-requires c =
-    omega (
-      arith,
-      inside (c.args.width) (length (c.args.table.now)) c.loop-i.i
-          (omega arith),
     )
 
 pub loop-i-preserved : goal.loop-i-preserved
