@@ -3,7 +3,7 @@
 use mathlib.Core.Path.{◌≡◌, refl, ap}
 use Prim.Native.Nat.{ℕ}
 use Rattle.std.specs.Prelude.{Result, Ok, Err, Option as Maybe, Some, None}
-use Rattle.lent.specs.Paper.{Told, value, nothing, refused, number, sum_number, told, told_value, told_fault}
+use Rattle.lent.specs.Paper.{number, sum_number, told, told_value, told_fault}
 use Rattle.lent.specs.declared.refusal.Refusal.{Refusal}
 use Rattle.lent.specs.declared.refusal.Refusal.TheVariants.{Length, Count, Order}
 use Rattle.lent.specs.declared.refusal.SumRefusal.{SumRefusal}

@@ -1,8 +1,13 @@
 -- Words on optional values, lists, texts and bits that more than one crate uses.
-use Rattle.std.specs.Prelude.{ℕ, ◌/◌, ◌%◌, Bool, List, [], ◌∷◌, eqb}
+use Rattle.std.specs.Prelude.{ℕ, ◌/◌, ◌%◌, Bool, List, [], ◌∷◌, eqb, Option as Maybe, Some, None}
 use Prim.Native.Char.{code}
 use Prim.Native.String.{String, [] as empty, ◌∷◌ as ◌∷ˢ◌}
 use Rattle.std.proofs.Math.Option.{Option, none, some}
+
+-- an optional value of the code, as these definitions have it
+abbrev pub optional : {A : Type 0} → Maybe A → Option A
+optional (Some x) = some x
+optional None = none
 
 -- the first value, or else the second
 unfoldable pub or_else : {A : Type 0} → Option A → Option A → Option A

@@ -1,63 +1,59 @@
--- The window's loop that writes: what is left to write, written onto the output as it is, gives the output as it will
--- be.
+-- The loop that writes the pieces of a window: what is left to write, written onto the output as it is, gives the output
+-- as it will be.
 -- Assumes nothing.
 use mathlib.Core.Path.{◌≡◌, refl}
-use Prim.Native.Nat.{ℕ, ◌+◌, ◌≤◌}
+use Prim.Native.Nat.{ℕ, ◌+◌, ◌*◌, ◌≤◌}
 use native.Mathlib.Numerals.{add-one, add-two}
 use native.Mathlib.Omega.{arith}
-use mathlib.Core.Bool.{Bool, true}
+use mathlib.Core.Bool.{true}
 use mathlib.Core.List.{List, [], ◌∷◌}
 use lib.ListN.{length, set, length-set}
 use lib.Seq.{sets}
 use Rattle.lent.specs.Room.{written_over}
 use Rattle.lent.proofs.Wrote.{front}
-use Rattle.omap.specs.Window.{Piece, window_pieces}
+use Rattle.omap.specs.Window.{Piece}
 use Rattle.omap.specs.Output.{beside_start, all_fit, flat}
-use Rattle.omap.specs.Walk.{left, Found}
+use Rattle.omap.proofs.Outputs.{length-flat}
 use Rattle.omap.proofs.Pieces.{fits-shown, first_fits, others-fit}
 
-pub record Filling (present : Bool) (s : List ℕ) (a b : ℕ) (out₀ out : List ℕ) (i k : ℕ) : Type 0 where
+pub record Filling (all left : List Piece) (out₀ out : List ℕ) (n : ℕ) : Type 0 where
   pub kept : length out ≡ length out₀
-  pub fit : all_fit (left present s a b i) ≡ true
-  pub room : k + length (flat (left present s a b i)) ≤ length out
-  pub more : sets out k (flat (left present s a b i)) ≡ written_over (flat (window_pieces present s a b)) out₀
+  pub fit : all_fit left ≡ true
+  pub room : 2 * n + length (flat left) ≤ length out
+  pub more : sets out (2 * n) (flat left) ≡ written_over (flat all) out₀
 
-pub filling-first : (present : Bool) (s : List ℕ) (a b : ℕ) (out : List ℕ) (i : ℕ)
-    → window_pieces present s a b ≡ left present s a b i
-    → all_fit (window_pieces present s a b) ≡ true → length (flat (window_pieces present s a b)) ≤ length out
-    → Filling present s a b out out i 0
-filling-first present s a b out i e f h = record {
-  kept = refl;
-  fit = rw e at f;
-  room = rw (← e) (omega arith);
-  more = rw (← e) (front (flat (window_pieces present s a b)) out h);
-}
+pub filling-first : (all : List Piece) (out : List ℕ) (n : ℕ) → all_fit all ≡ true → n ≡ length all
+    → 2 * n ≤ length out → Filling all all out out 0
+filling-first all out n f e h =
+    let room : length (flat all) ≤ length out = omega (arith, length-flat all) in
+    record { kept = refl; fit = f; room = omega arith; more = front (flat all) out room }
 
-module _ (present : Bool) (s : List ℕ) (a b : ℕ) (out₀ out : List ℕ) (i k : ℕ)
-    (w : Filling present s a b out₀ out i k) where
-  pub filling-last : left present s a b i ≡ [] → out ≡ written_over (flat (window_pieces present s a b)) out₀
+module _ (all left : List Piece) (out₀ out : List ℕ) (n : ℕ) (w : Filling all left out₀ out n) where
+  pub filling-last : left ≡ [] → out ≡ written_over (flat all) out₀
   unfolding flat
   filling-last e = rw e at w.more
 
-  module _ (p : Piece) (n : ℕ) (f : Found present s a b i p n) where
-    fit-here : all_fit (p ∷ left present s a b n) ≡ true
-    fit-here = rw f.first at w.fit
+  module _ (p : Piece) (rest : List Piece) (f : left ≡ p ∷ rest) where
+    fit-here : all_fit (p ∷ rest) ≡ true
+    fit-here = rw f at w.fit
 
     pub shown : (p.to ≤ 4294967295) × (beside_start p ≤ 4294967295)
-    shown = fits-shown p (first_fits p (left present s a b n) fit-here)
+    shown = fits-shown p (first_fits p rest fit-here)
 
-    room-more : k + (2 + length (flat (left present s a b n))) ≤ length out
+    room-more : 2 * n + (2 + length (flat rest)) ≤ length out
     unfolding flat
-    room-more = omega (arith, rw f.first at w.room)
+    room-more = omega (arith, rw f at w.room)
 
-    pub room-here : k + 2 ≤ length out
+    pub room-here : 2 * n + 2 ≤ length out
     room-here = omega (arith, room-more)
 
-    pub filling-more : Filling present s a b out₀ (set (set out k p.to) (k + 1) (beside_start p)) n (k + 2)
+    pub filling-more : Filling all rest out₀ (set (set out (2 * n) p.to) (2 * n + 1) (beside_start p)) (n + 1)
     unfolding flat
-    filling-more = record {
-      kept = simp length-set w.kept;
-      fit = others-fit p (left present s a b n) fit-here;
-      room = simp length-set (omega (arith, room-more));
-      more = rw (add-one, add-two) (rw f.first at w.more);
-    }
+    filling-more =
+        let e : 2 * (n + 1) ≡ 2 * n + 2 = omega arith in
+        record {
+          kept = simp length-set w.kept;
+          fit = others-fit p rest fit-here;
+          room = simp length-set (omega (arith, room-more));
+          more = rw (e, add-one, add-two) (rw f at w.more);
+        }

@@ -20,7 +20,7 @@ use Rattle.lent.proofs.Shaped.{at_most}
 use Rattle.omap.specs.Records.{moved, single}
 use Rattle.omap.specs.Lookup.{lookup_spec}
 use Rattle.omap.specs.Quick.{Probed, reported, record_before, answered_at, quick_spec, without_probes}
-use Rattle.omap.proofs.Lookups.{holder}
+use Rattle.omap.proofs.Looked.{holder}
 
 -- what the code's tests found
 module _ (s : List ℕ) (a : ℕ) where

@@ -18,7 +18,7 @@ use Rattle.lent.proofs.Place.{length-listed}
 use Rattle.omap.specs.Records.{entry_at, records}
 use Rattle.omap.specs.Step.{count_up_to, start_on, start_spec}
 use Rattle.omap.proofs.Last.{src}
-use Rattle.omap.proofs.Lookups.{found, found_none}
+use Rattle.omap.proofs.Looked.{found, found_none}
 
 none-up : (s : List ℕ) (i n a : ℕ) → ((j : ℕ) → i ≤ j → j < i + n → a < src s j) → count_up_to a
     (listed (entry_at s) i n) ≡ 0

@@ -19,8 +19,19 @@ use Rattle.omap.specs.Turn.{Turn, pulled, turn_with, end_of, turns}
 use Rattle.omap.specs.Step.{Stepped, piece, done, refused_at, translated, piece_or, first_piece, step_spec}
 use Rattle.omap.specs.Turned.{next_turn, turned_by}
 use Rattle.omap.specs.declared.cursor.Cursor.{Cursor}
+use Rattle.std.specs.Prelude.{Result, Ok, Err, Option as Maybe, Some, None}
+use Rattle.omap.specs.Refusals.{step_number}
+use Rattle.omap.specs.declared.cursor.Range.{Range}
+use Rattle.omap.specs.declared.cursor.StepRefusal.{StepRefusal}
+use Rattle.omap.specs.declared.cursor.StepRefusal.TheVariants.{Early, TooLarge}
 use Rattle.omap.specs.declared.cursor.Turned.{Turned}
-use Rattle.omap.specs.declared.cursor.Turned.TheVariants as turned
+
+-- what a turn answers: a piece from f to t and the next cursor, or the next cursor alone
+abbrev pub given : ℕ → ℕ → Cursor → Result Turned StepRefusal
+given f t k = Ok (record { range = Some (record { start = f; end = t }); next = k })
+
+abbrev pub skip : Cursor → Result Turned StepRefusal
+skip k = Ok (record { range = None; next = k })
 
 -- whether the part before x is translated
 module _ (x : Entry) (p : ℕ) (c : Cursor) where
@@ -41,24 +52,24 @@ module _ (x : Entry) (p : ℕ) (c : Cursor) where
   abbrev t : Turn
   t = turn_with x p c
 
-  pub turn-skips : translated t ≡ false → turned.Skip (pulled x p c) ≡ turned_by t
+  pub turn-skips : translated t ≡ false → skip (pulled x p c) ≡ turned_by t
   unfolding turned_by
   turn-skips e = rw e
 
   module _ (counts : translated t ≡ true) where
-    pub turn-early : c.address < c.source → turned.Early ≡ turned_by t
+    pub turn-early : c.address < c.source → Err Early ≡ turned_by t
     unfolding turned_by
     turn-early e = rw (counts, lt-leb c.source c.address e)
 
     module _ (e : c.source ≤ c.address) where
       pub turn-piece : fits t.part ≡ true → (stop beside : ℕ) → stop ≡ min x.source c.end
           → beside ≡ beside_start t.part
-          → turned.Piece (record { address = stop; end = c.end; source = x.source; target = x.target; place = p })
-          t.part.to beside ≡ turned_by t
+          → given t.part.to beside
+          (record { address = stop; end = c.end; source = x.source; target = x.target; place = p }) ≡ turned_by t
       unfolding turned_by
       turn-piece f stop beside m q = rw (counts, le-leb c.source c.address e, f, m, q)
 
-      pub turn-large : fits t.part ≡ false → turned.TooLarge ≡ turned_by t
+      pub turn-large : fits t.part ≡ false → Err TooLarge ≡ turned_by t
       unfolding turned_by
       turn-large f = rw (counts, le-leb c.source c.address e, f)
 
@@ -74,11 +85,13 @@ module _ (s : List ℕ) (c : Cursor) where
   next-end h = rw (nothing_left h)
 
 -- what a turn means for the step of the cursor c₀; after a skip the turns go on
-abbrev pub onward : Cursor → Turned → Stepped → Stepped
-onward c₀ (turned.Piece c f t) rest = piece f t c
-onward c₀ (turned.Skip c) rest = rest
-onward c₀ turned.Early rest = refused_at 6 c₀
-onward c₀ turned.TooLarge rest = refused_at 4 c₀
+abbrev pub shown : Maybe Range → Cursor → Stepped → Stepped
+shown (Some r) c rest = piece r.start r.end c
+shown None c rest = rest
+
+abbrev pub onward : Cursor → Result Turned StepRefusal → Stepped → Stepped
+onward c₀ (Ok t) rest = shown t.range t.next rest
+onward c₀ (Err why) rest = refused_at (step_number why) c₀
 
 -- the step of c₀, with the turns of c still to take
 abbrev pub walk : Cursor → List Entry → Cursor → Stepped
@@ -86,7 +99,7 @@ walk c₀ l c = first_piece c₀ c (turns l c)
 
 by_tests : (a b d : Bool) (c₀ k : Cursor) (f e : ℕ) (on : Stepped)
     → cond a (cond b (cond d (piece f e k) (refused_at 4 c₀)) (refused_at 6 c₀)) on
-    ≡ onward c₀ (cond a (cond b (cond d (turned.Piece k f e) turned.TooLarge) turned.Early) (turned.Skip k)) on
+    ≡ onward c₀ (cond a (cond b (cond d (given f e k) (Err TooLarge)) (Err Early)) (skip k)) on
 by_tests true true true c₀ k f e on = refl
 by_tests true true false c₀ k f e on = refl
 by_tests true false d c₀ k f e on = refl
@@ -119,20 +132,37 @@ walk_turn (x ∷ l) c₀ c h =
     (by_turn c₀ c (turn_with x (c.place + 1) c) (turns l (pulled x (c.place + 1) c)))
 
 -- a turn that ends the step
-pub walk_ends : (l : List Entry) (c₀ c : Cursor) → c.address < c.end → (t : Turned) → t ≡ turned_by (next_turn l c)
+pub walk_ends : (l : List Entry) (c₀ c : Cursor) → c.address < c.end → (t : Result Turned StepRefusal) → t ≡ turned_by (next_turn l c)
     → (a : Stepped) → ((rest : Stepped) → onward c₀ t rest ≡ a) → walk c₀ l c ≡ a
 walk_ends l c₀ c h t e a f = walk_turn l c₀ c h ∙ rw (← e) (f (later l c₀ c))
 
--- a skip leaves the cursor that has pulled the record
-skip-cases : (a b d : Bool) (f t : ℕ) (k k' : Cursor)
-    → turned.Skip k' ≡ cond a (cond b (cond d (turned.Piece k f t) turned.TooLarge) turned.Early) (turned.Skip k)
-    → k' ≡ k
-skip-cases true true true f t k k' e = cc
-skip-cases true true false f t k k' e = cc
-skip-cases true false d f t k k' e = cc
-skip-cases false b d f t k k' e = cc
+-- a turn that finds a piece gives it
+pub turn-yields : (l : List Entry) (c₀ c : Cursor) → c.address < c.end → (t : Turned) → Ok t ≡ turned_by (next_turn l c)
+    → (r : Range) → t.range ≡ Some r → walk c₀ l c ≡ piece r.start r.end t.next
+turn-yields l c₀ c h t e r f = walk_ends l c₀ c h (Ok t) e (piece r.start r.end t.next) (λ on. rw f)
 
-skip_is : (t : Turn) (k : Cursor) → turned.Skip k ≡ turned_by t → k ≡ t.after
+-- one that finds none skips the part
+pub turn-passes : (t : Turned) (u : Turn) → t.range ≡ None → Ok t ≡ turned_by u → skip t.next ≡ turned_by u
+turn-passes t u f e = ap (λ (r : Maybe Range). Ok (record { range = r; next = t.next })) (sym f) ∙ e
+
+abbrev next_or : Cursor → Result Turned StepRefusal → Cursor
+next_or c (Ok turned) = turned.next
+next_or c (Err why) = c
+
+abbrev range_of : Result Turned StepRefusal → Maybe Range
+range_of (Ok turned) = turned.range
+range_of (Err why) = None
+
+-- a skip leaves the cursor that has pulled the record
+skip-cases : (a b d : Bool) (f g : ℕ) (k k' : Cursor)
+    → skip k' ≡ cond a (cond b (cond d (given f g k) (Err TooLarge)) (Err Early)) (skip k)
+    → k' ≡ k
+skip-cases true true true f g k k' e = let r : ◌≡◌ {A = Maybe Range} None (Some (record { start = f; end = g })) = ap range_of e in cc
+skip-cases true true false f g k k' e = cc
+skip-cases true false d f g k k' e = cc
+skip-cases false b d f g k k' e = ap (next_or k) e
+
+skip_is : (t : Turn) (k : Cursor) → skip k ≡ turned_by t → k ≡ t.after
 unfolding turned_by
 skip_is t k e =
     skip-cases (translated t) (leb t.owner.source t.part.at) (fits t.part) t.part.to
@@ -148,7 +178,7 @@ pub record Onward (s : List ℕ) (c₀ c k : Cursor) : Type 0 where
       (c.end - c.address)
 
 module _ (s : List ℕ) (c₀ c k : Cursor) (h : c.address < c.end)
-    (e : turned.Skip k ≡ turned_by (next_turn (rest s c.place) c)) where
+    (e : skip k ≡ turned_by (next_turn (rest s c.place) c)) where
   goes_on : walk c₀ (rest s c.place) c ≡ later (rest s c.place) c₀ c
   goes_on = walk_turn (rest s c.place) c₀ c h ∙ rw (← e)
 

@@ -1,24 +1,22 @@
 -- The walk over a window's pieces: where it may begin, where it may stop, and what it finds on the way.
 -- Assumes nothing.
-use mathlib.Core.Path.{◌≡◌, refl, ap, ◌∙◌, subst}
-use mathlib.Core.Logic.{⊎_elim}
+use mathlib.Core.Path.{◌≡◌, refl, ap, ◌∙◌}
+use mathlib.Core.Logic.{◌⊎◌, inl, inr, ⊎_elim}
 use Prim.Native.Nat.{ℕ, zero, suc, ◌+◌, ◌-◌, ◌*◌, ◌/◌, ◌≤◌, ◌<◌, max, min}
 use native.Mathlib.Omega.{arith}
-use mathlib.Core.Bool.{Bool, true, false}
+use mathlib.Core.Bool.{true, false}
 use mathlib.Core.List.{List, []}
 use mathlib.Core.Option.{none, some}
 use lib.ListN.{length}
 use Rattle.lent.specs.Words.{put}
 use Rattle.lent.specs.Le.{le_at}
+use Rattle.lent.specs.Table.{listed}
 use Rattle.lent.specs.Order.{key_at, keys, rising, FirstAbove}
-use Rattle.lent.proofs.Field.{Bytes, below}
 use Rattle.lent.proofs.Logic.{lt-or-le}
 use Rattle.lent.proofs.Rising.{in_place}
 use Rattle.omap.specs.Records.{entry_at, rest}
-use Rattle.omap.specs.Window.{Piece, next_of, pieces, itself}
-use Rattle.omap.specs.Walk.{part_at, left, InOrder, Below, Bounded, Begins, Found, NextIs}
-use Rattle.omap.specs.declared.walk.Next.{Next}
-use Rattle.omap.specs.declared.walk.Next.TheVariants as next
+use Rattle.omap.specs.Window.{next_of, pieces, itself}
+use Rattle.omap.specs.Walk.{part_at, left, Below, Begins, Found}
 use Rattle.omap.proofs.Last.{src}
 use Rattle.omap.proofs.Pieces.{next-some, next-none, between, piece-empty, piece-zero, piece-some, step-none}
 use Rattle.omap.proofs.Pieces.{step-some, all_first, none_left, past_all}
@@ -53,8 +51,9 @@ module _ (s : List ℕ) where
       let f : i + 1 ≡ suc i = omega arith in
       begins a k u i (omega arith) b ∙ step-none s a b i (omega arith) e ∙ ap (λ (q : ℕ). pieces a b (rest s q)) f
 
-  pub begins-before : (a k : ℕ) → FirstAbove 8 s a k → 0 < k → Begins s a (k - 1)
-  begins-before a k u pos = begins a k u (k - 1) (omega arith)
+  pub begins-before : (a k : ℕ) → FirstAbove 8 s a k → Begins s a (k - 1)
+  begins-before a zero u = begins-at-all a
+  begins-before a (suc k) u = let e : suc k - 1 ≡ k = omega arith in rw e (begins a (suc k) u k (omega arith))
 
   module _ (b last : ℕ) (u : Below s b last) where
     -- from the first record at or past b on there are no pieces
@@ -94,36 +93,24 @@ module _ (s : List ℕ) (a b j : ℕ) (h : j < length s / 8) (i : ℕ)
       here : part_at s a b j ≡ some (between (entry_at s j) lo hi)
       here = rw (lo-is, hi-is) (piece-some a b (entry_at s j) (next_of (rest s (j + 1))) (omega arith) z)
 
-      pub walk-found : Bytes s → i ≤ j → a ≤ 4294967295 → b ≤ 4294967295 → Found true s a b i
-          (between (entry_at s j) lo hi) (j + 1)
-      walk-found bytes m ha hb =
+      pub walk-found : i ≤ j → Found true s a b i (between (entry_at s j) lo hi) (j + 1)
+      walk-found m =
           let e : j + 1 - 1 ≡ j = omega arith in
-          let t : tgt s j < 4294967296 = below 4 s (8 * j + 4) bytes in
-          let q : src s j < 4294967296 = below 4 s (8 * j) bytes in
           record {
             first = same ∙ step-some s a b j h (between (entry_at s j) lo hi) here;
             owned = ap (part_at s a b) e ∙ here;
             further = omega arith;
-            some-of-it = omega arith;
-            inside = omega arith;
-            small = omega arith;
           }
 
 -- the one piece of an absent table
 module _ (s : List ℕ) (a b : ℕ) where
-  pub absent-past : (i : ℕ) → (i ≡ 0 → ⊥) → left false s a b i ≡ []
-  absent-past zero z = absurd (z refl)
-  absent-past (suc i) z = refl
-
-  pub absent-zero : (i : ℕ) → a ≡ 0 → left false s a b i ≡ []
+  -- none, where its one record is passed, or the window starts at 0 or is empty
+  pub absent-none : (i : ℕ) → ((i ≡ 0 → ⊥) ⊎ ((a ≡ 0) ⊎ (b ≤ a))) → left false s a b i ≡ []
   unfolding pieces put next_of
-  absent-zero zero z = rw (piece-zero a b (itself a) 4294967296 z)
-  absent-zero (suc i) z = refl
-
-  pub absent-empty : (i : ℕ) → b ≤ a → left false s a b i ≡ []
-  unfolding pieces put next_of
-  absent-empty zero h = rw (piece-empty a b (itself a) 4294967296 (omega arith))
-  absent-empty (suc i) h = refl
+  absent-none zero (inl z) = absurd (z refl)
+  absent-none zero (inr (inl z)) = rw (piece-zero a b (itself a) 4294967296 z)
+  absent-none zero (inr (inr h)) = rw (piece-empty a b (itself a) 4294967296 (omega arith))
+  absent-none (suc i) h = refl
 
   pub absent-found : (i : ℕ) → i ≡ 0 → (a ≡ 0 → ⊥) → a < b → b ≤ 4294967295 → Found false s a b i
       (record { at = a; size = b - a; to = a }) 1
@@ -137,27 +124,12 @@ module _ (s : List ℕ) (a b : ℕ) where
         first = rw p;
         owned = p;
         further = omega arith;
-        some-of-it = omega arith;
-        inside = omega arith;
-        small = omega arith;
       })
 
--- what is asked of a table behind its mark, where the mark is known
-pub present-order : (present : Bool) (s : List ℕ) → present ≡ true → InOrder present s → rising (keys 8 s) ≡ true
-present-order present s e o = subst (λ (t : Bool). InOrder t s) e o
+-- an absent table counts as empty: it is in order, and no record begins below b
+pub none-rises : rising (keys 8 []) ≡ true
+unfolding rising listed
+none-rises = refl
 
-pub present-bound : (present : Bool) (s : List ℕ) (b last : ℕ) → present ≡ true → Bounded present s b last
-    → Bounded true s b last
-present-bound present s b last e o = subst (λ (t : Bool). Bounded t s b last) e o
-
--- what the next piece says, by its two answers
-module _ (present : Bool) (s : List ℕ) (a b i : ℕ) {r : Next} (told : NextIs present s a b i r) where
-  pub was-found : (p : Piece) (n : ℕ) → r ≡ next.Piece p n → Found present s a b i p n
-  was-found p n e = subst (NextIs present s a b i) e told
-
-  pub was-end : r ≡ next.End → left present s a b i ≡ []
-  was-end e = subst (NextIs present s a b i) e told
-
-  -- a piece further on, fewer are left
-  pub nearer : (p : Piece) (n : ℕ) → r ≡ next.Piece p n → length (left present s a b n) < length (left present s a b i)
-  nearer p n e = omega (arith, ap length (was-found p n e).first)
+pub none-below : (b : ℕ) → Below [] b 0
+none-below b = record { within = omega arith; before = λ j h. absurd (omega arith); after = λ j h l. absurd (omega arith) }

@@ -9,3 +9,7 @@ pub mod Step
 pub mod Turned
 pub mod Yields
 pub mod Walk
+pub mod Told
+pub mod Ahead
+pub mod Fitted
+pub mod Refusals

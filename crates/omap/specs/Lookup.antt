@@ -2,28 +2,13 @@
 use Rattle.std.specs.Prelude.{ℕ, ◌/◌, Bool, cond, List, length, ltb}
 use Rattle.std.proofs.Math.Option.{Option, none, some}
 use Rattle.lent.specs.Order.{omap_fault}
-use Rattle.lent.specs.Paper.{Told, value, nothing, refused, unless, number, fitted}
+use Rattle.lent.specs.Paper.{Told, value, nothing, refused, unless, fitted}
 use Rattle.lent.specs.Table.{omap_shape}
 use Rattle.omap.specs.Records.{Entry, entry_at, records, single}
-use Rattle.omap.specs.declared.Recorded.{Recorded}
-use Rattle.omap.specs.declared.Recorded.TheVariants as recorded
-use Rattle.omap.specs.declared.Looked.{Looked}
-use Rattle.omap.specs.declared.Looked.TheVariants as looked
-
-abbrev pub told_recorded : Recorded → Told Entry
-told_recorded (recorded.Record s t) = value (record { source = s; target = t })
-told_recorded recorded.Nothing = nothing
-told_recorded (recorded.Refused why) = refused (number why)
 
 -- the record at a place: 1, 2, none past the last
 unfoldable pub record_spec : List ℕ → ℕ → Told Entry
 record_spec s i = unless (omap_shape s) (cond (ltb i (length s / 8)) (value (entry_at s i)) nothing)
-
-abbrev pub told_looked : Looked → Told ℕ
-told_looked (looked.At t) = value t
-told_looked looked.Nothing = nothing
-told_looked (looked.Refused why) = refused (number why)
-told_looked looked.TooLarge = refused 4
 
 -- the single translation: 1, 2, 3, none or 4; with no table, the address itself
 unfoldable pub lookup_spec : Bool → List ℕ → ℕ → Told ℕ

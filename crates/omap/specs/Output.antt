@@ -1,14 +1,12 @@
 -- What the window's calls answer, and what the writing one leaves in the lent output.
-use Rattle.std.specs.Prelude.{ℕ, ◌+◌, ◌/◌, Bool, true, cond, ◌&&◌, List, [], ◌∷◌, length, leb}
+use Rattle.std.specs.Prelude.{ℕ, ◌+◌, ◌/◌, Bool, true, cond, ◌&&◌, List, [], ◌∷◌, length, leb, Result, Ok, Err}
 use Rattle.std.proofs.Math.Option.{Option, none, some}
 use Rattle.lent.specs.Order.{omap_fault}
-use Rattle.lent.specs.Paper.{Told, value, refused, first_fault, unless, number}
+use Rattle.lent.specs.Paper.{Told, value, first_fault, unless, number}
 use Rattle.lent.specs.Room.{Written, counted, refused_as, refused_for, room_for, unless_fault, out_after}
 use Rattle.omap.specs.Window.{Piece, window_pieces}
-use Rattle.omap.specs.declared.windows.Counted.{Counted}
-use Rattle.omap.specs.declared.windows.Counted.TheVariants as count
-use Rattle.omap.specs.declared.windows.Windowed.{Windowed}
-use Rattle.omap.specs.declared.windows.Windowed.TheVariants as windowed
+use Rattle.omap.specs.declared.windows.WindowRefusal.{WindowRefusal}
+use Rattle.omap.specs.declared.windows.WindowRefusal.TheVariants as refusal
 
 -- beside its start a piece shows its excluded end
 unfoldable pub beside_start : Piece → ℕ
@@ -38,21 +36,16 @@ window_fault present s a b = first_fault (marked_fault present s) (sum_fault (wi
 unfoldable pub count_spec : Bool → List ℕ → ℕ → ℕ → Told ℕ
 count_spec present s a b = unless (window_fault present s a b) (value (length (window_pieces present s a b)))
 
-abbrev pub told_counted : Counted → Told ℕ
-told_counted (count.Pieces n) = value n
-told_counted (count.Refused why) = refused (number why)
-told_counted count.TooLarge = refused 4
-
 -- the pieces as pairs
 unfoldable pub flat : List Piece → List ℕ
 flat [] = []
 flat (p ∷ l) = p.to ∷ (beside_start p ∷ flat l)
 
-abbrev pub told_windowed : Windowed → Written
-told_windowed (windowed.Pieces n) = counted n
-told_windowed (windowed.Refused why) = refused_as (number why)
-told_windowed windowed.TooLarge = refused_as 4
-told_windowed (windowed.Short n) = refused_for 5 n
+abbrev pub told_windowed : Result ℕ WindowRefusal → Written
+told_windowed (Ok n) = counted n
+told_windowed (Err (refusal.Table why)) = refused_as (number why)
+told_windowed (Err refusal.TooLarge) = refused_as 4
+told_windowed (Err (refusal.Short n)) = refused_for 5 n
 
 -- the whole-window call, with room for so many entries: 1, 2, 3, 4, 5 or the number of pieces
 unfoldable pub window_spec : Bool → List ℕ → ℕ → ℕ → ℕ → Written

@@ -1,13 +1,14 @@
 -- What `quick_lookup` answers: a lookup that does not test the order, and reports the records that it probed.
-use Rattle.std.specs.Prelude.{ℕ, zero, suc, Bool, cond, List}
+use Rattle.std.specs.Prelude.{ℕ, zero, suc, Bool, cond, List, Result, Ok, Err}
 use Rattle.std.proofs.Math.Option.{Option, none, some}
-use Rattle.lent.specs.Paper.{Told, value, nothing, refused, unless, number, fitted}
+use Rattle.lent.specs.Paper.{Told, value, nothing, refused, unless, sum_number, fitted}
 use Rattle.lent.specs.Table.{omap_shape}
 use Rattle.lent.specs.Search.{binary_search}
-use Rattle.lent.specs.declared.Searched.{Searched}
+use Rattle.lent.specs.Words.{optional}
+use Rattle.lent.specs.declared.refusal.SumRefusal.{SumRefusal}
+use Rattle.lent.specs.declared.searches.Searched.{Searched}
 use Rattle.omap.specs.Records.{Entry, entry_at, moved}
-use Rattle.omap.specs.declared.Quick.{Quick}
-use Rattle.omap.specs.declared.Quick.TheVariants as quick
+use Rattle.omap.specs.declared.lookups.Quick.{Quick}
 
 -- a translation, or none, and the number of records probed for it
 pub record Probed : Type 0 where
@@ -20,11 +21,9 @@ reported n (value t) = value (record { translation = some t; probes = n })
 reported n nothing = value (record { translation = none; probes = n })
 reported n (refused why) = refused why
 
-abbrev pub told_quick : Quick → Told Probed
-told_quick (quick.At t n) = reported n (value t)
-told_quick (quick.Nothing n) = reported n nothing
-told_quick (quick.Refused why) = refused (number why)
-told_quick quick.TooLarge = refused 4
+abbrev pub told_quick : Result Quick SumRefusal → Told Probed
+told_quick (Ok q) = value (record { translation = optional q.translation; probes = q.probes })
+told_quick (Err why) = refused (sum_number why)
 
 -- the record just before a place
 abbrev pub record_before : List ℕ → ℕ → Option Entry

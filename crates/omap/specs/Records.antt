@@ -4,11 +4,9 @@ use Rattle.std.proofs.Math.Option.{Option, none, some}
 use Rattle.lent.specs.Le.{le_at}
 use Rattle.lent.specs.Table.{listed}
 use Rattle.lent.specs.Order.{last_at}
+pub use Rattle.omap.specs.declared.lookups.Entry.{Entry}
 
--- OMAP record, 8 bytes: source at 0, target at 4, each 4 bytes
-pub record Entry : Type 0 where
-  pub source : ℕ
-  pub target : ℕ
+-- OMAP record, 8 bytes, `Entry`: source at 0, target at 4, each 4 bytes
 
 -- the record at place i
 abbrev pub entry_at : List ℕ → ℕ → Entry

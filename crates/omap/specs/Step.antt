@@ -1,22 +1,19 @@
 -- A range cursor by value: where it starts, and its step on any table, field by field as `lookup_range` and
 -- `RangeIter::next` go.
 use Rattle.std.specs.Prelude.{ℕ, suc, Bool, cond, not, ◌&&◌, List, [], ◌∷◌, length, ltb, leb, eqb}
+use Rattle.std.specs.Prelude.{Result, Ok, Err, Option as Maybe, Some, None}
 use Rattle.std.proofs.Math.Option.{Option, none, some}
 use Rattle.lent.specs.Order.{omap_fault}
-use Rattle.lent.specs.Paper.{Told, value, refused, unless, number}
+use Rattle.lent.specs.Paper.{Told, value, unless}
 use Rattle.lent.specs.Table.{if_present, omap_shape}
 use Rattle.omap.specs.Records.{Entry, records, rest, holder_of}
 use Rattle.omap.specs.Output.{beside_start, fits}
 use Rattle.omap.specs.Turn.{Turn, turns}
+use Rattle.omap.specs.Refusals.{step_number}
 use Rattle.omap.specs.declared.cursor.Cursor.{Cursor}
-use Rattle.omap.specs.declared.cursor.Started.{Started}
-use Rattle.omap.specs.declared.cursor.Started.TheVariants as started
+use Rattle.omap.specs.declared.cursor.Range.{Range}
+use Rattle.omap.specs.declared.cursor.StepRefusal.{StepRefusal}
 use Rattle.omap.specs.declared.cursor.Step.{Step}
-use Rattle.omap.specs.declared.cursor.Step.TheVariants as step
-
-abbrev pub told_started : Started → Told Cursor
-told_started (started.At c) = value c
-told_started (started.Refused why) = refused (number why)
 
 -- how many records have a source of at most a: the place of the next record to pull
 unfoldable pub count_up_to : ℕ → List Entry → ℕ
@@ -49,12 +46,13 @@ pub data Stepped : Type 0 where
   done : Cursor → Stepped
   refused_at : ℕ → Cursor → Stepped
 
+abbrev pub told_answer : Result (Maybe Range) StepRefusal → Cursor → Stepped
+told_answer (Ok (Some r)) c = piece r.start r.end c
+told_answer (Ok None) c = done c
+told_answer (Err why) c = refused_at (step_number why) c
+
 abbrev pub told_step : Step → Stepped
-told_step (step.Piece c start end) = piece start end c
-told_step (step.Done c) = done c
-told_step (step.Refused c why) = refused_at (number why) c
-told_step (step.Early c) = refused_at 6 c
-told_step (step.TooLarge c) = refused_at 4 c
+told_step s = told_answer s.answer s.cursor
 
 -- a part is translated if it is not empty and its record is mapped
 unfoldable pub translated : Turn → Bool

@@ -1,12 +1,13 @@
 -- What the cursor's own functions hand each other. No public promise cites this file.
-use Rattle.std.specs.Prelude.{◌+◌, cond, List, [], ◌∷◌, leb}
+use Rattle.std.specs.Prelude.{◌+◌, cond, List, [], ◌∷◌, leb, Result, Ok, Err, Some, None}
 use Rattle.omap.specs.Records.{Entry}
 use Rattle.omap.specs.Output.{beside_start, fits}
 use Rattle.omap.specs.Turn.{Turn, turn_with, end_of}
 use Rattle.omap.specs.Step.{translated}
 use Rattle.omap.specs.declared.cursor.Cursor.{Cursor}
+use Rattle.omap.specs.declared.cursor.StepRefusal.{StepRefusal}
+use Rattle.omap.specs.declared.cursor.StepRefusal.TheVariants.{Early, TooLarge}
 use Rattle.omap.specs.declared.cursor.Turned.{Turned}
-use Rattle.omap.specs.declared.cursor.Turned.TheVariants as turned
 
 -- the first turn of a cursor
 abbrev pub next_turn : List Entry → Cursor → Turn
@@ -14,10 +15,12 @@ next_turn [] c = turn_with (end_of c) c.place c
 next_turn (x ∷ l) c = turn_with x (c.place + 1) c
 
 -- a turn as the code tells it
-unfoldable pub turned_by : Turn → Turned
+unfoldable pub turned_by : Turn → Result Turned StepRefusal
 turned_by t =
     cond (translated t)
     (cond (leb t.owner.source t.part.at)
-    (cond (fits t.part) (turned.Piece t.after t.part.to (beside_start t.part)) turned.TooLarge)
-    turned.Early)
-    (turned.Skip t.after)
+    (cond (fits t.part)
+    (Ok (record { range = Some (record { start = t.part.to; end = beside_start t.part }); next = t.after }))
+    (Err TooLarge))
+    (Err Early))
+    (Ok (record { range = None; next = t.after }))

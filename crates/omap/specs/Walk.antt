@@ -1,12 +1,9 @@
 -- What the walk over a window's pieces hands to those that go by it. No public promise cites this file.
 use Rattle.std.specs.Prelude.{ℕ, zero, suc, ◌+◌, ◌-◌, ◌/◌, ◌≤◌, ◌<◌, ◌≡◌, Bool, true, false, List, [], ◌∷◌, length}
 use Rattle.std.proofs.Math.Option.{Option, some}
-use Rattle.lent.specs.Order.{key_at, keys, rising}
+use Rattle.lent.specs.Order.{key_at}
 use Rattle.omap.specs.Records.{entry_at, records, rest}
-use Rattle.omap.specs.Window.{Piece, next_of, piece_of, pieces, itself, identity, window_pieces}
-use Rattle.omap.specs.declared.walk.Span.{Span}
-use Rattle.omap.specs.declared.walk.Next.{Next}
-use Rattle.omap.specs.declared.walk.Next.TheVariants as next
+use Rattle.omap.specs.Window.{Piece, next_of, piece_of, pieces, itself, identity}
 
 -- the piece of the record at place i
 abbrev pub part_at : List ℕ → ℕ → ℕ → ℕ → Option Piece
@@ -23,44 +20,18 @@ abbrev pub part_before : Bool → List ℕ → ℕ → ℕ → ℕ → Option Pi
 part_before true s a b n = part_at s a b (n - 1)
 part_before false s a b n = piece_of a b (itself a) 4294967296
 
--- a piece's numbers stay far below 64 bits
-abbrev pub Small : Piece → Type 0
-Small p = p.to + p.size ≤ 12884901888
-
--- a table that is present is in order
-abbrev pub InOrder : Bool → List ℕ → Type 0
-InOrder true s = rising (keys 8 s) ≡ true
-InOrder false s = Unit {0}
-
 -- the records before place r, and no others, begin below b
 pub record Below (s : List ℕ) (b r : ℕ) : Type 0 where
   pub within : r ≤ length s / 8
   pub before : (j : ℕ) → j < r → key_at 8 s j < b
   pub after : (j : ℕ) → r ≤ j → j < length s / 8 → b ≤ key_at 8 s j
 
--- where the walk ends in a table that is present
-abbrev pub Bounded : Bool → List ℕ → ℕ → ℕ → Type 0
-Bounded true s b last = InOrder true s × Below s b last
-Bounded false s b last = Unit {0}
-
 -- the records before place r have no piece from a on
 abbrev pub Begins : List ℕ → ℕ → ℕ → Type 0
 Begins s a r = (b : ℕ) → pieces a b (records s) ≡ pieces a b (rest s r)
-
--- from its first place on a span has all pieces of the window
-pub record Spans (present : Bool) (s : List ℕ) (a b : ℕ) (r : Span) : Type 0 where
-  pub all : window_pieces present s a b ≡ left present s a b r.first
-  pub bounded : Bounded present s b r.last
 
 -- p is the first piece from place i on, and n is the place after its record
 pub record Found (present : Bool) (s : List ℕ) (a b i : ℕ) (p : Piece) (n : ℕ) : Type 0 where
   pub first : left present s a b i ≡ p ∷ left present s a b n
   pub owned : part_before present s a b n ≡ some p
   pub further : i < n
-  pub some-of-it : 0 < p.size
-  pub inside : p.at + p.size ≤ b
-  pub small : Small p
-
-abbrev pub NextIs : Bool → List ℕ → ℕ → ℕ → ℕ → Next → Type 0
-NextIs present s a b i (next.Piece p n) = Found present s a b i p n
-NextIs present s a b i next.End = left present s a b i ≡ []

@@ -3,9 +3,12 @@ use Rattle.std.specs.Prelude.{ℕ, ◌+◌, ◌-◌, max, min, Bool, cond, not, 
 use Rattle.std.proofs.Math.Option.{Option, none, some}
 use Rattle.lent.specs.Words.{put}
 use Rattle.omap.specs.Records.{Entry, records}
-pub use Rattle.omap.specs.declared.walk.Piece.{Piece}
 
--- A mapped piece, `Piece`: `at` is where it starts in the window, `size` how many addresses it has, `to` where they go.
+-- a mapped piece: where it starts in the window, how many addresses it has, where they go
+pub record Piece : Type 0 where
+  pub at : ℕ
+  pub size : ℕ
+  pub to : ℕ
 
 -- where the record before l ends: at the next source; the last one reaches to the end of 32 bits
 unfoldable pub next_of : List Entry → ℕ

@@ -1,12 +1,16 @@
 // A cursor over the pieces of a window, by value: `RangeIter` of pdb, with its table beside it.
-ghost use Rattle.std.specs.Prelude.{◌≡◌, true};
+ghost use Rattle.std.specs.Prelude.{◌≡◌, is_some};
+ghost use Rattle.lent.specs.Paper.{number, told_value};
+ghost use Rattle.lent.specs.Table.{bytes_of};
 ghost use Rattle.omap.specs.Records.{rest};
-ghost use Rattle.omap.specs.Step.{told_started, start_spec, told_step, step_spec};
+ghost use Rattle.omap.specs.Refusals.{step_number};
+ghost use Rattle.omap.specs.Step.{start_spec, told_step, step_spec};
 ghost use Rattle.omap.specs.Turn.{turn_with};
 ghost use Rattle.omap.specs.Turned.{next_turn, turned_by};
 
-use crate::walk::{Piece, beside_start, fits};
-use lent::{Checked, Refusal};
+use crate::lookups::{Entry, entry_at};
+use crate::piece::Piece;
+use lent::{Numbered, OMAP, Refusal, binary_search, bytes_or_none};
 
 #[repr(C)]
 #[derive(Clone, Copy)]
@@ -22,165 +26,188 @@ pub struct Cursor {
     pub place: usize,
 }
 
+// Where a piece goes: its start there, and its excluded end.
+#[repr(C)]
 #[derive(Clone, Copy)]
-pub enum Started {
-    At(Cursor),
-    Refused(Refusal),
+pub struct Range {
+    pub start: u32,
+    pub end: u32,
 }
 
-// What a step answers. Every answer hands a cursor back, and has it first: with a refusal, the one that was stepped.
-#[derive(Clone, Copy)]
-pub enum Step {
-    // The next cursor, and a piece's start and end.
-    Piece(Cursor, u32, u32),
-    // No piece is left; the cursor as it is left behind.
-    Done(Cursor),
-    Refused(Cursor, Refusal),
-    // Refusal 6: the piece begins before its record's source.
-    Early(Cursor),
-    // Refusal 4: the piece does not fit 32 bits.
-    TooLarge(Cursor),
-}
-
-// What one turn of a step finds.
-#[derive(Clone, Copy)]
-enum Turned {
-    Piece(Cursor, u32, u32),
-    Skip(Cursor),
+// Why a step is refused.
+#[derive(Clone, Copy, Debug, PartialEq, Eq)]
+pub enum StepRefusal {
+    Table(Refusal),
+    // 6: the piece begins before its record's source.
     Early,
+    // 4: the piece does not fit 32 bits.
     TooLarge,
 }
 
+// What a step answers: where a piece goes, or none if no piece is left. A cursor is handed back with every answer: the
+// next one, or the one left behind; with a refusal, the one that was stepped.
+#[derive(Clone, Copy)]
+pub struct Step {
+    pub answer: Result<Option<Range>, StepRefusal>,
+    pub cursor: Cursor,
+}
+
+// What one turn of a step finds: where a piece goes, unless the part is passed over, and the next cursor.
+#[derive(Clone, Copy)]
+struct Turned {
+    pub range: Option<Range>,
+    pub next: Cursor,
+}
+
+impl Numbered for StepRefusal {
+    ghost number_of = { step_number };
+
+    fn number(self) -> u32 {
+        match self {
+            StepRefusal::Table(why) => why.number(),
+            StepRefusal::Early => 6,
+            StepRefusal::TooLarge => 4,
+        }
+    }
+}
+
 // One turn of the cursor c with a record pulled, and the place after it.
-fn turn(c: Cursor, source: u32, target: u32, place: usize) -> Turned
-    ensures { result ≡ turned_by (turn_with (record { source = source; target = target }) place c) }
+fn turn(c: Cursor, pulled: Entry, place: usize) -> Result<Turned, StepRefusal>
+    ensures { result ≡ turned_by (turn_with pulled place c) }
 {
-    let stop = lent::smaller(source, c.end);
+    let stop = pulled.source.min(c.end);
     let next = Cursor {
         address: stop,
         end: c.end,
-        source: source,
-        target: target,
-        place: place,
+        source: pulled.source,
+        target: pulled.target,
+        place,
     };
     if stop <= c.address {
-        return Turned::Skip(next);
+        return Ok(Turned { range: None, next });
     }
     if c.target == 0 {
-        return Turned::Skip(next);
+        return Ok(Turned { range: None, next });
     }
     if c.address < c.source {
-        return Turned::Early;
+        return Err(StepRefusal::Early);
     }
     let piece = Piece {
         at: c.address as u64,
         size: (stop - c.address) as u64,
         to: (c.address - c.source) as u64 + c.target as u64,
     };
-    if fits(piece) {
-        Turned::Piece(next, piece.to as u32, beside_start(piece) as u32)
+    if piece.fits() {
+        let start = piece.to as u32;
+        let end = piece.beside_start() as u32;
+        Ok(Turned {
+            range: Some(Range { start, end }),
+            next,
+        })
     } else {
-        Turned::TooLarge
+        Err(StepRefusal::TooLarge)
     }
 }
 
 // One turn with the next record of the table, or with one at the window's end.
-fn pull(table: &[u8], c: Cursor) -> Turned
+fn pull(table: &[u8], c: Cursor) -> Result<Turned, StepRefusal>
     ensures { result ≡ turned_by (next_turn (rest table.now c.place) c) }
 {
     let place = c.place;
-    if place < table.len() / lent::OMAP {
-        let source = lent::u32_at(table, lent::OMAP * place);
-        let target = lent::u32_at(table, lent::OMAP * place + 4);
-        turn(c, source, target, place + 1)
+    if place < table.len() / OMAP.width {
+        turn(c, entry_at(table, place), place + 1)
     } else {
-        turn(c, c.end, 0, place)
-    }
-}
-
-// The cursor at the start of a window of a table.
-fn start_in(table: &[u8], a: u32, b: u32) -> Started
-    ensures { told_started result ≡ start_spec true table.now a b }
-{
-    let checked = lent::omap_check(table);
-    if let Checked::Refused(why) = checked {
-        return Started::Refused(why);
-    }
-    if b <= a {
-        return Started::At(Cursor {
-            address: 0,
-            end: 0,
-            source: 0,
+        let past = Entry {
+            source: c.end,
             target: 0,
-            place: table.len() / lent::OMAP,
-        });
+        };
+        turn(c, past, place)
     }
-    let found = lent::binary_search(table, lent::OMAP, a);
-    let k = found.place;
-    if k == 0 {
-        return Started::At(Cursor {
-            address: a,
-            end: b,
-            source: 0,
-            target: 0,
-            place: 0,
-        });
-    }
-    let at = k - 1;
-    Started::At(Cursor {
-        address: a,
-        end: b,
-        source: lent::u32_at(table, lent::OMAP * at),
-        target: lent::u32_at(table, lent::OMAP * at + 4),
-        place: k,
-    })
 }
 
 impl Cursor {
     // The cursor over the pieces of a..b.
-    pub fn start(present: bool, table: &[u8], a: u32, b: u32) -> Started
-        ensures { told_started result ≡ start_spec present table.now a b }
+    #[tactic(auto, unfolding(crate::specs::Step::start_spec))]
+    pub fn start(table: Option<&[u8]>, a: u32, b: u32) -> Result<Cursor, Refusal>
+        ensures { told_value number result ≡ start_spec (is_some table.entry) (bytes_of table.entry) a b }
     {
-        if present {
-            start_in(table, a, b)
-        } else {
-            Started::At(Cursor {
+        let Some(records) = table else {
+            return Ok(Cursor {
                 address: a,
                 end: b,
                 source: a,
                 target: a,
                 place: 0,
-            })
+            });
+        };
+        OMAP.check(records)?;
+        if b <= a {
+            return Ok(Cursor {
+                address: 0,
+                end: 0,
+                source: 0,
+                target: 0,
+                place: records.len() / OMAP.width,
+            });
         }
+        let k = binary_search(records, OMAP.width, a).place;
+        if k == 0 {
+            return Ok(Cursor {
+                address: a,
+                end: b,
+                source: 0,
+                target: 0,
+                place: 0,
+            });
+        }
+        let at = k - 1;
+        let Entry { source, target } = entry_at(records, at);
+        Ok(Cursor {
+            address: a,
+            end: b,
+            source,
+            target,
+            place: k,
+        })
     }
 
     // The next piece, on any table, in order or not.
-    pub fn step(mut self, present: bool, table: &[u8]) -> Step
-        ensures { told_step result ≡ step_spec present table.now self }
+    #[tactic(auto, unfolding(crate::specs::Step::step_spec))]
+    pub fn step(mut self, table: Option<&[u8]>) -> Step
+        ensures { told_step result ≡ step_spec (is_some table.entry) (bytes_of table.entry) self }
     {
         let from = self;
-        let records = lent::if_present(present, table);
-        let shaped = lent::omap_shape(records);
-        if let Checked::Refused(why) = shaped {
-            return Step::Refused(from, why);
+        let records = bytes_or_none(table);
+        if let Err(why) = OMAP.shape(records) {
+            return Step {
+                answer: Err(StepRefusal::Table(why)),
+                cursor: from,
+            };
         }
         while self.address < self.end {
-            let turned = pull(records, self);
-            match turned {
-                Turned::Piece(next, start, end) => {
-                    return Step::Piece(next, start, end);
-                }
-                Turned::Skip(next) => {
-                    self = next;
-                }
-                Turned::Early => {
-                    return Step::Early(from);
-                }
-                Turned::TooLarge => {
-                    return Step::TooLarge(from);
+            match pull(records, self) {
+                Ok(turned) => match turned.range {
+                    Some(range) => {
+                        return Step {
+                            answer: Ok(Some(range)),
+                            cursor: turned.next,
+                        };
+                    }
+                    None => {
+                        self = turned.next;
+                    }
+                },
+                Err(why) => {
+                    return Step {
+                        answer: Err(why),
+                        cursor: from,
+                    };
                 }
             }
         }
-        Step::Done(self)
+        Step {
+            answer: Ok(None),
+            cursor: self,
+        }
     }
 }

@@ -1,9 +1,7 @@
 use Prim.Native.Nat.{ℕ}
 use mathlib.Core.Path.{ap}
 use native.Mathlib.Omega.{arith}
-use lib.ListN.{length}
 use lib.Dec.{leb}
-use Rattle.lent.proofs.Place.{inside, four_each}
 use Rattle.lent.proofs.Halving.{halving-first, halving-next, halving-done, halving-last}
 use Rattle.lent.proofs.searches.binary_search.Goals as goal
 

@@ -4,10 +4,9 @@ use mathlib.Core.Bool.{Bool, ◌&&◌, and-true}
 use native.Mathlib.Omega.{arith}
 use lib.ListN.{length}
 use lib.Dec.{eqb}
-use native.Mathlib.Nat.{mul-zero, div-le_self}
+use native.Mathlib.Nat.{mul-zero}
 use Rattle.lent.specs.Le.{le_at}
 use Rattle.lent.specs.Order.{key_at}
-use Rattle.lent.proofs.Place.{inside}
 use Rattle.lent.proofs.Rising.{after-step, rising-first, rising_none, rising-all}
 use Rattle.lent.proofs.table.in_order.Goals as goal
 

@@ -7,8 +7,7 @@ use Rattle.omap.proofs.cursor.pull.Goals as goal
 pub returns-then-place-table : goal.returns-then-place-table
 returns-then-place-table c =
     let a = c.args in
-    c.turn.ensures ∙ rw (c.u32_at-source.ensures, c.u32_at-target.ensures)
-    (ap turned_by (sym (next-record a.table.now a.c (omega arith))))
+    c.turn.ensures ∙ rw c.entry_at.ensures (ap turned_by (sym (next-record a.table.now a.c (omega arith))))
 
 pub returns-else-place-table : goal.returns-else-place-table
 returns-else-place-table c =
