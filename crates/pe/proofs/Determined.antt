@@ -3,51 +3,34 @@
 -- Assumes nothing.
 use mathlib.Core.Path.{◌≡◌, refl, sym, ap, ◌∙◌}
 use Prim.Native.Nat.{ℕ}
-use Rattle.lent.specs.Paper.{Told, value, nothing, refused}
-use Rattle.lent.specs.declared.Refusal.TheVariants.{Length, Count, Order}
-use Rattle.lent.proofs.Answers.{refusal, one_answer}
+use mathlib.Core.Bool.{Bool, true, false}
+use Rattle.std.specs.Prelude.{Result, Ok, Err, Option as Maybe, Some, None}
+use Rattle.lent.specs.Paper.{Told, number, told}
+use Rattle.lent.specs.declared.refusal.Refusal.{Refusal}
+use Rattle.lent.proofs.Determined.{one_number, one_told}
 use Rattle.pe.specs.Flags.{told_alignment}
-use Rattle.pe.specs.Header.{told_given, Heads}
-use Rattle.pe.specs.declared.characteristics.Alignment.{Alignment}
-use Rattle.pe.specs.declared.characteristics.Alignment.TheVariants as alignment
+use Rattle.pe.specs.Header.{told_given}
 use Rattle.pe.specs.declared.header.ImageSectionHeader.{ImageSectionHeader}
-use Rattle.pe.specs.declared.header.Headed.{Headed}
-use Rattle.pe.specs.declared.header.Given.{Given}
-use Rattle.pe.specs.declared.header.Given.TheVariants as given
 
-abbrev given_back : Told ImageSectionHeader → Given
-given_back (value h) = given.Header
-given_back nothing = given.Nothing
-given_back (refused n) = given.Refused (refusal n)
+-- whether there is a header, whatever stands beside it
+pub one-given : (g q : Result Bool Refusal) (h k : ImageSectionHeader) → told_given g h ≡ told_given q k → g ≡ q
+one-given (Ok true) (Ok true) h k e = refl
+one-given (Ok true) (Ok false) h k e = cc
+one-given (Ok true) (Err w) h k e = cc
+one-given (Ok false) (Ok true) h k e = cc
+one-given (Ok false) (Ok false) h k e = refl
+one-given (Ok false) (Err w) h k e = cc
+one-given (Err v) (Ok true) h k e = cc
+one-given (Err v) (Ok false) h k e = cc
+one-given (Err v) (Err w) h k e = let n : number v ≡ number w = cc in ap Err (one_number v w n)
 
-given-back : (g : Given) (h : ImageSectionHeader) → given_back (told_given g h) ≡ g
-given-back given.Header h = refl
-given-back given.Nothing h = refl
-given-back (given.Refused Length) h = refl
-given-back (given.Refused Count) h = refl
-given-back (given.Refused Order) h = refl
+-- the header
+pub one-headed : (r q : Result (Maybe ImageSectionHeader) Refusal) (t : Told ImageSectionHeader) → told number r ≡ t
+    → told number q ≡ t → r ≡ q
+one-headed r q t a b = one_told number one_number r q (a ∙ sym b)
 
--- the flag, whatever stands beside it
-pub one-given : (g q : Given) (h k : ImageSectionHeader) → told_given g h ≡ told_given q k → g ≡ q
-one-given g q h k e = sym (given-back g h) ∙ ap given_back e ∙ given-back q k
-
--- the flag and the header
-pub one-headed : (r q : Headed) (t : Told ImageSectionHeader) → Heads r t → Heads q t → r ≡ q
-one-headed r q t a b =
-    let flag : r.given ≡ q.given =
-    one-given r.given q.given r.header q.header (a.told ∙ sym b.told) in
-    let beside : r.header ≡ q.header = a.beside ∙ sym b.beside in
-    ap (λ (g : Given). record { given = g; header = r.header }) flag
-    ∙ ap (λ (h : ImageSectionHeader). record { given = q.given; header = h }) beside
-
-abbrev alignment_back : Told ℕ → Alignment
-alignment_back (value n) = alignment.Bytes n
-alignment_back nothing = alignment.Nothing
-alignment_back (refused n) = alignment.Nothing
-
-alignment-back : (a : Alignment) → alignment_back (told_alignment a) ≡ a
-alignment-back (alignment.Bytes n) = refl
-alignment-back alignment.Nothing = refl
-
-pub one-alignment : (t : Told ℕ) (r q : Alignment) → told_alignment r ≡ t → told_alignment q ≡ t → r ≡ q
-one-alignment = one_answer told_alignment alignment_back alignment-back
+pub one-alignment : (t : Told ℕ) (r q : Maybe ℕ) → told_alignment r ≡ t → told_alignment q ≡ t → r ≡ q
+one-alignment t (Some m) (Some n) a b = let e : m ≡ n = cc in cc
+one-alignment t (Some m) None a b = cc
+one-alignment t None (Some n) a b = cc
+one-alignment t None None a b = refl

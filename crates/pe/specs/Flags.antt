@@ -1,10 +1,9 @@
 -- The flags of a section header, and the alignment that some of them hold. Names and bits are those of winnt.h's
 -- IMAGE_SCN_ constants, as src/pe.rs of pdb 0.8.0 has them; which method asks for which flag is src/pe.rs alone.
 use Rattle.std.specs.Prelude.{ℕ, ◌-◌, ◌^◌, ◌/◌, ◌%◌, Bool, cond, ◌&&◌, leb, eqb}
+use Rattle.std.specs.Prelude.{Option as Maybe, Some, None}
 use Rattle.lent.specs.Paper.{Told, value, nothing}
 use Rattle.lent.specs.Words.{is_set}
-use Rattle.pe.specs.declared.characteristics.Alignment.{Alignment}
-use Rattle.pe.specs.declared.characteristics.Alignment.TheVariants as alignment
 
 pub data Flag : Type 0 where
   image_scn_type_no_pad : Flag
@@ -70,6 +69,6 @@ alignment_spec x =
     (cond (leb 1 (align_bits x) && leb (align_bits x) 14) (value (2 ^ (align_bits x - 1))) nothing)
 
 -- the alignment, as the paper's answer
-abbrev pub told_alignment : Alignment → Told ℕ
-told_alignment (alignment.Bytes n) = value n
-told_alignment alignment.Nothing = nothing
+abbrev pub told_alignment : Maybe ℕ → Told ℕ
+told_alignment (Some n) = value n
+told_alignment None = nothing

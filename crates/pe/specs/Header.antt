@@ -1,14 +1,13 @@
 -- A section header. The names, offsets and sizes of its fields are those of the table "Section Table (Section Headers)"
 -- in Microsoft's PE Format. winnt.h declares the same fields as IMAGE_SECTION_HEADER, and src/pe.rs of pdb 0.8.0 reads
 -- them in this order.
-use Rattle.std.specs.Prelude.{◌≡◌, ℕ, ◌+◌, ◌*◌, ◌/◌, cond, List, [], ◌∷◌, length, take, drop, ltb}
+use Rattle.std.specs.Prelude.{ℕ, ◌+◌, ◌*◌, ◌/◌, Bool, true, false, cond, List, [], ◌∷◌, length, take, drop, ltb}
+use Rattle.std.specs.Prelude.{Result, Ok, Err}
 use Rattle.lent.specs.Le.{le_at}
 use Rattle.lent.specs.Paper.{Told, value, nothing, refused, unless, number}
+use Rattle.lent.specs.declared.refusal.Refusal.{Refusal}
 use Rattle.lent.specs.Table.{listed, section_shape}
 use Rattle.pe.specs.declared.header.ImageSectionHeader.{ImageSectionHeader}
-use Rattle.pe.specs.declared.header.Headed.{Headed}
-use Rattle.pe.specs.declared.header.Given.{Given}
-use Rattle.pe.specs.declared.header.Given.TheVariants as given
 
 pub data Field : Type 0 where
   Name : Field
@@ -96,13 +95,8 @@ header_or0 (value h) = h
 header_or0 nothing = no_header
 header_or0 (refused n) = no_header
 
--- a header beside its flag, as the paper's answer
-abbrev pub told_given : Given → ImageSectionHeader → Told ImageSectionHeader
-told_given given.Header h = value h
-told_given given.Nothing h = nothing
-told_given (given.Refused why) h = refused (number why)
-
--- what is answered, and what stands beside the answer
-pub record Heads (r : Headed) (t : Told ImageSectionHeader) : Type 0 where
-  pub told : told_given r.given r.header ≡ t
-  pub beside : r.header ≡ header_or0 t
+-- whether there is a header, with the header, as the paper's answer
+abbrev pub told_given : Result Bool Refusal → ImageSectionHeader → Told ImageSectionHeader
+told_given (Ok true) h = value h
+told_given (Ok false) h = nothing
+told_given (Err why) h = refused (number why)

@@ -59,13 +59,6 @@ const IMAGE_SCN_ALIGN_1BYTES: u32 = 0x00100000;
 #[derive(Clone, Copy)]
 pub struct SectionCharacteristics(pub u32);
 
-// The alignment of a section's data in bytes, where the flags specify one.
-#[derive(Clone, Copy)]
-pub enum Alignment {
-    Bytes(u16),
-    Nothing,
-}
-
 // Whether the one bit that `bit` has is set in `x`. It compiles to a test with a mask.
 fn is_set(x: u32, bit: u32) -> bool
     requires { 0 < bit }
@@ -74,6 +67,7 @@ fn is_set(x: u32, bit: u32) -> bool
     x / bit % 2 == 1
 }
 
+// A method for each flag, by pdb's names: one with the flag as its argument would be no plainer for a caller.
 impl SectionCharacteristics {
     // The section contains executable code.
     pub fn executable(self) -> bool
@@ -159,25 +153,17 @@ impl SectionCharacteristics {
         is_set(self.0, IMAGE_SCN_MEM_PRELOAD)
     }
 
-    // The alignment of the section's data. Object files only.
-    #[tactic(auto, using(crate::proofs::Align::all_bits))]
-    pub fn alignment(self) -> Alignment
+    // The alignment of the section's data in bytes, where the flags specify one. Object files only.
+    #[tactic(auto, unfolding(crate::specs::Flags::alignment_spec))]
+    pub fn alignment(self) -> Option<u16>
         ensures { told_alignment result ≡ alignment_spec self.0 }
     {
         let n = self.0 / IMAGE_SCN_ALIGN_1BYTES % 16;
-        if is_set(self.0, IMAGE_SCN_TYPE_NO_PAD) {
-            if n == 0 {
-                return Alignment::Bytes(1);
-            }
-            return Alignment::Nothing;
+        match (is_set(self.0, IMAGE_SCN_TYPE_NO_PAD), n) {
+            (true, 0) => Some(1),
+            (false, 1..=14) => Some(1 << (n - 1)),
+            _ => None,
         }
-        if n == 0 {
-            return Alignment::Nothing;
-        }
-        if n == 15 {
-            return Alignment::Nothing;
-        }
-        Alignment::Bytes(1 << (n - 1))
     }
 
     // The section contains extended relocations.

@@ -4,8 +4,10 @@ ghost use Rattle.pe.specs.Extent.{extent};
 ghost use Rattle.pe.specs.Header.{header_at, layout};
 ghost use Rattle.pe.specs.Inside.{size_field};
 
+use lent::SECTIONS;
+
 // Which of a header's two sizes the extent is.
-#[derive(Clone, Copy)]
+#[derive(Clone, Copy, Debug, PartialEq, Eq)]
 pub enum ExtentBy {
     // The size in memory, or the size on disk where that is 0.
     MemorySize,
@@ -25,16 +27,13 @@ fn size_in_header(by: ExtentBy) -> usize
 }
 
 // The extent of the section at a place: the one function that knows which size that is.
+#[tactic(auto, unfolding(crate::specs::Extent::extent, crate::specs::Header::header_at))]
 pub fn extent_at(by: ExtentBy, table: &[u8], place: usize) -> u32
     requires { place < length table.now / 40 }
     ensures { result ≡ extent by (header_at table.now place) }
 {
-    let at = 40 * place;
+    let at = SECTIONS.width * place;
     let raw_size = lent::u32_at(table, at + 16);
-    let field = size_in_header(by);
-    let size = lent::u32_at(table, at + field);
-    if size == 0 {
-        return raw_size;
-    }
-    size
+    let size = lent::u32_at(table, at + size_in_header(by));
+    if size == 0 { raw_size } else { size }
 }

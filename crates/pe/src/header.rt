@@ -1,9 +1,10 @@
 // A section header by its place in a table of them.
 ghost use Rattle.std.specs.Prelude.{◌≡◌, ◌+◌, ◌/◌, ◌≤◌, ◌<◌, length, take, drop};
-ghost use Rattle.pe.specs.Header.{header_at, header_spec, no_header, told_given, Heads};
+ghost use Rattle.lent.specs.Paper.{told, number};
+ghost use Rattle.pe.specs.Header.{header_at, header_spec, told_given};
 
 use crate::characteristics::SectionCharacteristics;
-use lent::Checked;
+use lent::{Refusal, SECTIONS};
 
 // A PE `IMAGE_SECTION_HEADER`.
 #[repr(C)]
@@ -31,28 +32,14 @@ pub struct ImageSectionHeader {
     pub characteristics: SectionCharacteristics,
 }
 
-// Whether there is a header to give.
-#[derive(Clone, Copy)]
-pub enum Given {
-    Header,
-    // The place is past the last header.
-    Nothing,
-    Refused(lent::Refusal),
-}
-
-// A header beside the flag that says whether it is one: all zeros where it is none.
-#[derive(Clone, Copy)]
-pub struct Headed {
-    pub given: Given,
-    pub header: ImageSectionHeader,
-}
-
-// The address at which the section at a place begins.
+// The address at which the section at a place begins. A table and a place stay two arguments, here and below: a walk
+// goes over the places of one table, and a struct of both, made anew for each place, would be no plainer.
+#[tactic(auto, unfolding(crate::specs::Header::header_at))]
 pub fn virtual_address_at(table: &[u8], place: usize) -> u32
     requires { place < length table.now / 40 }
     ensures { result ≡ (header_at table.now place).virtual_address }
 {
-    lent::u32_at(table, 40 * place + 12)
+    lent::u32_at(table, SECTIONS.width * place + 12)
 }
 
 // The eight bytes at a place.
@@ -60,24 +47,18 @@ fn eight_at(s: &[u8], at: usize) -> [u8; 8]
     requires { at + 8 ≤ length s.now }
     ensures { result ≡ take 8 (drop at s.now) }
 {
-    [
-        s[at],
-        s[at + 1],
-        s[at + 2],
-        s[at + 3],
-        s[at + 4],
-        s[at + 5],
-        s[at + 6],
-        s[at + 7],
-    ]
+    let mut eight = [0; 8];
+    eight.copy_from_slice(&s[at..at + 8]);
+    eight
 }
 
 // The header at a place that the table has.
+#[tactic(auto, unfolding(crate::specs::Header::header_at))]
 fn decoded(table: &[u8], place: usize) -> ImageSectionHeader
     requires { place < length table.now / 40 }
     ensures { result ≡ header_at table.now place }
 {
-    let at = 40 * place;
+    let at = SECTIONS.width * place;
     ImageSectionHeader {
         name: eight_at(table, at),
         virtual_size: lent::u32_at(table, at + 8),
@@ -92,52 +73,22 @@ fn decoded(table: &[u8], place: usize) -> ImageSectionHeader
     }
 }
 
-// Where there is no header to give.
-fn no_header(given: Given) -> Headed
-    ensures { (result.given ≡ given) × (result.header ≡ no_header) }
-{
-    Headed {
-        given,
-        header: ImageSectionHeader {
-            name: [0; 8],
-            virtual_size: 0,
-            virtual_address: 0,
-            size_of_raw_data: 0,
-            pointer_to_raw_data: 0,
-            pointer_to_relocations: 0,
-            pointer_to_line_numbers: 0,
-            number_of_relocations: 0,
-            number_of_line_numbers: 0,
-            characteristics: SectionCharacteristics(0),
-        },
-    }
-}
-
-// Whether a table has a header at a place: the flag that `header_at` gives, without the header.
-pub fn given_at(table: &[u8], place: usize) -> Given
+// Whether a table has a header at a place: what `header_at` answers, without the header.
+#[tactic(auto, unfolding(crate::specs::Header::header_spec))]
+pub fn given_at(table: &[u8], place: usize) -> Result<bool, Refusal>
     ensures { told_given result (header_at table.now place) ≡ header_spec table.now place }
 {
-    let shaped = lent::section_shape(table);
-    if let Checked::Refused(why) = shaped {
-        return Given::Refused(why);
-    }
-    if table.len() / 40 <= place {
-        return Given::Nothing;
-    }
-    Given::Header
+    SECTIONS.shape(table)?;
+    Ok(place < table.len() / SECTIONS.width)
 }
 
 // The header at a place of a table.
-pub fn header_at(table: &[u8], place: usize) -> Headed
-    ensures { Heads result (header_spec table.now place) }
+#[tactic(auto, using(crate::proofs::HeaderAnswers::found))]
+pub fn header_at(table: &[u8], place: usize) -> Result<Option<ImageSectionHeader>, Refusal>
+    ensures { told number result ≡ header_spec table.now place }
 {
-    let given = given_at(table, place);
-    match given {
-        Given::Header => Headed {
-            given: Given::Header,
-            header: decoded(table, place),
-        },
-        Given::Nothing => no_header(Given::Nothing),
-        Given::Refused(why) => no_header(Given::Refused(why)),
+    if given_at(table, place)? {
+        return Ok(Some(decoded(table, place)));
     }
+    Ok(None)
 }

@@ -6,7 +6,7 @@ mod extent;
 mod header;
 mod naming;
 
-pub use characteristics::{Alignment, SectionCharacteristics};
+pub use characteristics::SectionCharacteristics;
 pub use extent::{ExtentBy, extent_at};
-pub use header::{Given, Headed, ImageSectionHeader, given_at, header_at, virtual_address_at};
+pub use header::{ImageSectionHeader, given_at, header_at, virtual_address_at};
 pub use naming::{name, name_length};

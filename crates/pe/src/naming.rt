@@ -2,37 +2,30 @@
 ghost use Rattle.std.specs.Prelude.{◌≡◌, length};
 ghost use Rattle.pe.specs.Name.{name_spec};
 
-use crate::header::{Given, given_at};
-
-// The length of the name of the section with this number, from 1: 0 where there is none.
-pub fn name_length(table: &[u8], number: u16) -> usize
-    ensures { result ≡ length (name_spec table.now number) }
-{
-    if number == 0 {
-        return 0;
-    }
-    let place = number as usize - 1;
-    let given = given_at(table, place);
-    match given {
-        Given::Header => {
-            let from = 40 * place;
-            let to = from + 8;
-            utf8::text_length(&table[from..to])
-        }
-        Given::Nothing => 0,
-        Given::Refused(_) => 0,
-    }
-}
+use crate::header::given_at;
+use lent::SECTIONS;
 
 // The name of the section with this number, from 1: the part of its header that holds it, empty where there is none.
+#[tactic(auto, unfolding(crate::specs::Name::name_spec))]
 pub fn name(table: &[u8], number: u16) -> &[u8]
     ensures { result.now ≡ name_spec table.now number }
 {
-    let n = name_length(table, number);
-    if n == 0 {
-        return &table[..0];
+    let Some(place) = usize::from(number).checked_sub(1) else {
+        return &[];
+    };
+    match given_at(table, place) {
+        Ok(true) => {
+            let from = SECTIONS.width * place;
+            let field = &table[from..from + 8];
+            &field[..utf8::text_length(field)]
+        }
+        Ok(false) | Err(_) => &[],
     }
-    let from = 40 * (number as usize - 1);
-    let to = from + n;
-    &table[from..to]
+}
+
+// The length of that name: 0 where there is none.
+pub fn name_length(table: &[u8], number: u16) -> usize
+    ensures { result ≡ length (name_spec table.now number) }
+{
+    name(table, number).len()
 }

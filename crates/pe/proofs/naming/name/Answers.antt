@@ -1,36 +1,25 @@
-use mathlib.Core.Path.{◌≡◌, sym, ◌∙◌}
+use mathlib.Core.Path.{◌≡◌, sym, ap, ◌∙◌}
 use Prim.Native.Nat.{◌+◌, ◌-◌, ◌*◌}
 use native.Mathlib.Omega.{arith}
-use lib.ListN.{length}
-use Rattle.pe.specs.Name.{name_spec}
-use Rattle.pe.proofs.Names.{lies, no_length}
+use lib.ListN.{length, take, drop}
+use Rattle.pe.proofs.HeaderAnswers.{found}
+use Rattle.pe.proofs.Names.{front, name-held}
 use Rattle.pe.proofs.naming.name.Goals as goal
 
-pub returns-then-n-eq0 : goal.returns-then-n-eq0
-returns-then-n-eq0 c =
-    let a = c.args in
-    no_length (name_spec a.table.now a.number)
-    (sym c.name_length-n.ensures ∙ c.if-n-eq0.true)
+pub slice_bounds-field-end : goal.slice_bounds-field-end
+slice_bounds-field-end c =
+    let there = rw c.in-Ok-true.field-0-test at c.in-Ok-true.ensures in
+    omega (arith, found c.args.table.now c.in-Some.place there)
 
-pub overflow_sub-from : goal.overflow_sub-from
-overflow_sub-from c =
-    let a = c.args in
-    (lies a.table.now a.number).numbered (omega arith)
+pub slice_bounds-result-end-in-Ok-true : goal.slice_bounds-result-end-in-Ok-true
+slice_bounds-result-end-in-Ok-true c =
+    rw c.text_length.ensures (sym (ap length (front _)))
 
-pub overflow_add-to : goal.overflow_add-to
-overflow_add-to c =
-    let a = c.args in
-    omega (arith, (lies a.table.now a.number).inside (omega arith))
-
-pub slice_bounds-result-end-2 : goal.slice_bounds-result-end-2
-slice_bounds-result-end-2 c =
-    let a = c.args in
-    omega (arith, (lies a.table.now a.number).inside (omega arith))
-
-pub returns : goal.returns
-returns c =
-    let a = c.args in
-    let s = a.table.now in
-    let from = 40 * (a.number - 1) in
-    let e : from + c.name_length-n.result - from ≡ length (name_spec s a.number) = omega arith in
-    rw e (sym (lies s a.number).part)
+pub returns-in-Ok-true : goal.returns-in-Ok-true
+returns-in-Ok-true c =
+    let s = c.args.table.now in
+    let i = c.in-Some.place in
+    let there = rw c.in-Ok-true.field-0-test at c.in-Ok-true.ensures in
+    let eight : 40 * i + 8 - 40 * i ≡ 8 = omega arith in
+    let number : c.args.number ≡ i + 1 = omega arith in
+    rw (c.text_length.ensures, number, eight) (front (take 8 (drop (40 * i) s)) ∙ name-held s i there)
