@@ -36,17 +36,15 @@ module _ (w : ℕ) (s : List ℕ) (a : ℕ) where
     last : last_at start a (spans w s) ≡ some (span_at w s (k - 1))
     last = found start (span_at w s) w s a (λ j. refl) k pos u
 
-    pub enter-before : covers a (span_at w s (k - 1)) ≡ true → place_spec a (spans w s) ≡ k - 1
-    unfolding place_spec
-    enter-before e = rw (last, e)
-
     enter : place_spec a (spans w s) ≡ cond (covers a (span_at w s (k - 1))) (k - 1) k
     unfolding place_spec
     enter = let e : k - 1 + 1 ≡ k = omega arith in rw (last, e)
 
+    pub enter-before : covers a (span_at w s (k - 1)) ≡ true → place_spec a (spans w s) ≡ k - 1
+    enter-before e = rw e at enter
+
     pub enter-after : covers a (span_at w s (k - 1)) ≡ false → place_spec a (spans w s) ≡ k
-    unfolding place_spec
-    enter-after e = rw (last, e) (omega arith)
+    enter-after e = rw e at enter
 
 -- What is known of the place that a search finds, and of the record just before it.
 module _ (w : ℕ) (s : List ℕ) (a : ℕ) (ordered : rising (keys w s) ≡ true) where
@@ -68,12 +66,16 @@ module _ (w : ℕ) (s : List ℕ) (a : ℕ) (ordered : rising (keys w s) ≡ tru
         (binary_search w s a).place
     found_enters = enter w s a (binary_search w s a).place h above
 
+pub ruleset place_found = (found_first, found_inside, found_begins, found_enters)
+
 -- tables that are not refused are in order
 pub old_in_order : (s : List ℕ) → none ≡ old_frame_fault s → rising (keys 16 s) ≡ true
 old_in_order s e = in_order old_frame_table s (sym e)
 
 pub new_in_order : (t : List ℕ) → none ≡ new_frame_fault t → rising (keys 32 t) ≡ true
 new_in_order t e = in_order new_frame_table t (sym e)
+
+pub ruleset tables_in_order = (old_in_order, new_in_order)
 
 first-none : (x y : Option ℕ) → first_fault x y ≡ none → (none ≡ x) × (none ≡ y)
 first-none none y e = (refl, sym e)

@@ -92,7 +92,8 @@ pub(crate) fn new_frame(table: &[u8], place: usize) -> FrameData
     }
 }
 
-// Whether a table of one kind, of a right length, has a record at a place.
+// Whether a table of one kind, of a right length, has a record at a place. The calls below share this and differ in how
+// a record is read: a trait over the kind, with a ghost member for what its record gives, would be longer than both.
 fn has(kind: Kind, table: &[u8], place: usize) -> Result<bool, Refusal>
     ensures { told_value number result ≡ unless (shape_fault (record { width = kind.width; most = kind.most }) table.now)
         (value (ltb place (length table.now / kind.width))) }

@@ -11,7 +11,7 @@ use crate::tables::FrameTable;
 use lent::{NEW_FRAMES, OLD_FRAMES, Refusal, bytes_or_none};
 
 // Where one table in order, of either kind, is entered for an address.
-#[tactic(auto, using(crate::proofs::Entering::found_first, crate::proofs::Entering::found_inside, crate::proofs::Entering::found_begins, crate::proofs::Entering::found_enters))]
+#[tactic(auto, using(crate::proofs::Entering::place_found))]
 fn place_at(table: &[u8], width: usize, address: u32) -> usize
     requires wide { 8 ≤ width }
     requires in_order { rising (keys width table.now) ≡ true }
@@ -32,7 +32,7 @@ fn place_at(table: &[u8], width: usize, address: u32) -> usize
 
 impl<'t> FrameTable<'t> {
     // The cursor whose first frames cover an address or, where no frame covers it, follow it.
-    #[tactic(auto, unfolding(crate::specs::Start::start_spec), using(crate::proofs::Entering::old_in_order, crate::proofs::Entering::new_in_order))]
+    #[tactic(auto, unfolding(crate::specs::Start::start_spec), using(crate::proofs::Entering::tables_in_order))]
     pub fn start_at(self, address: u32) -> Result<FrameCursor, Refusal>
         ensures { told_value number result
             ≡ start_spec address (bytes_of self.entry.old) (bytes_of self.entry.new) }
