@@ -1,30 +1,27 @@
 -- Where a table in order is entered, from the place of the first record above the address.
 -- Assumes nothing.
-use mathlib.Core.Path.{◌≡◌, refl}
-use Prim.Native.Nat.{ℕ, ◌-◌, ◌≤◌, ◌<◌}
+use mathlib.Core.Path.{◌≡◌, refl, sym, subst}
+use Prim.Native.Nat.{ℕ, ◌+◌, ◌-◌, ◌*◌, ◌≤◌, ◌<◌}
 use native.Mathlib.Omega.{arith}
-use mathlib.Core.Bool.{true, false}
+use mathlib.Core.Bool.{true, false, cond}
 use mathlib.Core.List.{List}
 use mathlib.Core.Option.{Option, none, some}
-use borrow.Author.Tests.{lt-ltb, le-ltb, eq-eqb, ne_eqb}
+use lib.ListN.{length}
+use borrow.Author.Tests.{eq-eqb}
+use Rattle.lent.specs.Le.{le_at}
 use Rattle.lent.specs.Paper.{first_fault}
 use Rattle.lent.specs.Table.{old_frame_table, new_frame_table}
 use Rattle.lent.specs.Order.{rising, keys, old_frame_fault, new_frame_fault, last_at, FirstAbove}
+use Rattle.lent.specs.Search.{binary_search}
 use Rattle.lent.proofs.Last.{in_order, found, found_none}
+use Rattle.lent.proofs.Place.{inside}
+use Rattle.lent.proofs.Search.{first_above}
 use Rattle.framedata.specs.Records.{Span, span_at, spans}
 use Rattle.framedata.specs.Tables.{fault_of_both}
 use Rattle.framedata.specs.Start.{covers, place_spec}
 
-module _ (a : ℕ) (x : Span) where
-  pub hit : x.code_start ≡ a → covers a x ≡ true
-  hit e = rw (eq-eqb x.code_start a e)
-
-  module _ (miss : x.code_start ≡ a → ⊥) where
-    pub reaches : a - x.code_start < x.code_size → covers a x ≡ true
-    reaches h = rw (ne_eqb x.code_start a miss, lt-ltb (a - x.code_start) x.code_size h)
-
-    pub ends-before : x.code_size ≤ a - x.code_start → covers a x ≡ false
-    ends-before h = rw (ne_eqb x.code_start a miss, le-ltb (a - x.code_start) x.code_size h)
+pub hit : (a : ℕ) (x : Span) → x.code_start ≡ a → covers a x ≡ true
+hit a x e = rw (eq-eqb x.code_start a e)
 
 abbrev start : Span → ℕ
 start x = x.code_start
@@ -39,20 +36,52 @@ module _ (w : ℕ) (s : List ℕ) (a : ℕ) where
     last : last_at start a (spans w s) ≡ some (span_at w s (k - 1))
     last = found start (span_at w s) w s a (λ j. refl) k pos u
 
-    pub enter-before : covers a (span_at w s (k - 1)) ≡ true → place_spec a (spans w s) ≡ k - 1
+    enter : place_spec a (spans w s) ≡ cond (covers a (span_at w s (k - 1))) (k - 1) k
     unfolding place_spec
-    enter-before e = rw (last, e)
+    enter = let e : k - 1 + 1 ≡ k = omega arith in rw (last, e)
+
+    pub enter-before : covers a (span_at w s (k - 1)) ≡ true → place_spec a (spans w s) ≡ k - 1
+    enter-before e = rw e at enter
 
     pub enter-after : covers a (span_at w s (k - 1)) ≡ false → place_spec a (spans w s) ≡ k
-    unfolding place_spec
-    enter-after e = rw (last, e) (omega arith)
+    enter-after e = rw e at enter
 
-first-none : (x y : Option ℕ) → first_fault x y ≡ none → (x ≡ none) × (y ≡ none)
-first-none none y e = (refl, e)
-first-none (some n) y e = (e, cc)
+-- What is known of the place that a search finds, and of the record just before it.
+module _ (w : ℕ) (s : List ℕ) (a : ℕ) (ordered : rising (keys w s) ≡ true) where
+  above : FirstAbove w s a (binary_search w s a).place
+  above = first_above w s a ordered
+
+  pub found_first : (binary_search w s a).place ≡ 0 → place_spec a (spans w s) ≡ 0
+  found_first e = enter-first w s a (subst (FirstAbove w s a) e above)
+
+  module _ (h : 1 ≤ (binary_search w s a).place) where
+    pub found_inside : w * ((binary_search w s a).place - 1) + w ≤ length s
+    found_inside = inside w (length s) ((binary_search w s a).place - 1) (omega (arith, above.within))
+
+    pub found_begins : le_at 4 s (w * ((binary_search w s a).place - 1)) ≤ a
+    found_begins = above.below ((binary_search w s a).place - 1) (omega arith)
+
+    pub found_enters : place_spec a (spans w s)
+        ≡ cond (covers a (span_at w s ((binary_search w s a).place - 1))) ((binary_search w s a).place - 1)
+        (binary_search w s a).place
+    found_enters = enter w s a (binary_search w s a).place h above
+
+pub ruleset place_found = (found_first, found_inside, found_begins, found_enters)
 
 -- tables that are not refused are in order
+pub old_in_order : (s : List ℕ) → none ≡ old_frame_fault s → rising (keys 16 s) ≡ true
+old_in_order s e = in_order old_frame_table s (sym e)
+
+pub new_in_order : (t : List ℕ) → none ≡ new_frame_fault t → rising (keys 32 t) ≡ true
+new_in_order t e = in_order new_frame_table t (sym e)
+
+pub ruleset tables_in_order = (old_in_order, new_in_order)
+
+first-none : (x y : Option ℕ) → first_fault x y ≡ none → (none ≡ x) × (none ≡ y)
+first-none none y e = (refl, sym e)
+first-none (some n) y e = (cc, cc)
+
 pub both-good : (s t : List ℕ) → fault_of_both s t ≡ none → (rising (keys 16 s) ≡ true) × (rising (keys 32 t) ≡ true)
 both-good s t e =
     let g = first-none (old_frame_fault s) (new_frame_fault t) e in
-    (in_order old_frame_table s g.0, in_order new_frame_table t g.1)
+    (old_in_order s g.0, new_in_order t g.1)

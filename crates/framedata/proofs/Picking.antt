@@ -1,10 +1,10 @@
 -- Which record comes next, from plain facts.
 -- Assumes nothing.
-use mathlib.Core.Path.{◌≡◌, sym, subst, ◌∙◌}
+use mathlib.Core.Path.{◌≡◌, sym, subst}
 use mathlib.Core.Logic.{⊎_elim}
 use Prim.Native.Nat.{ℕ, ◌/◌, ◌≤◌, ◌<◌}
 use native.Mathlib.Omega.{arith}
-use mathlib.Core.Bool.{Bool, true, false}
+use mathlib.Core.Bool.{true, false}
 use mathlib.Core.List.{List}
 use mathlib.Core.Option.{Option, none, some}
 use lib.ListN.{length}
@@ -46,20 +46,6 @@ module _ (o : OldFrame) (n : NewFrame) where
       (lt-or-le b a))
       (lt-or-le a b)
 
--- which tables a pick takes a record of
-abbrev pub takes_old : Pick → Bool
-takes_old (old o) = true
-takes_old (new n) = false
-takes_old (both n o) = true
-
-abbrev pub takes_new : Pick → Bool
-takes_new (old o) = false
-takes_new (new n) = true
-takes_new (both n o) = true
-
-some_is : {p q : Pick} → some p ≡ some q → p ≡ q
-some_is e = cc
-
 pub differ : false ≡ true → ⊥
 differ e = let z : ◌≡◌ {A = ℕ} 0 1 = cc in omega arith
 
@@ -85,26 +71,3 @@ module _ (s t : List ℕ) (i j : ℕ) where
 
   pub two-left : i < n → j < m → picked ≡ some (lesser (old_record s i) (new_record t j))
   two-left h l = rw (there (old_record s) n i h, there (new_record t) m j l)
-
-  -- what takes a record of a table finds the place inside it
-  pub old-inside : (p : Pick) → picked ≡ some p → takes_old p ≡ true → i < n
-  old-inside p e takes =
-      ⊎_elim
-      (λ (h : i < n). h)
-      (λ (h : n ≤ i).
-      ⊎_elim
-      (λ (l : j < m). absurd (differ (subst (λ (q : Pick). takes_old q ≡ true) (some_is (sym e ∙ only-new h l)) takes)))
-      (λ (l : m ≤ j). let z : ◌≡◌ {A = ℕ} 0 1 = cc (none_left h l) in absurd (omega arith))
-      (lt-or-le j m))
-      (lt-or-le i n)
-
-  pub new-inside : (p : Pick) → picked ≡ some p → takes_new p ≡ true → j < m
-  new-inside p e takes =
-      ⊎_elim
-      (λ (l : j < m). l)
-      (λ (l : m ≤ j).
-      ⊎_elim
-      (λ (h : i < n). absurd (differ (subst (λ (q : Pick). takes_new q ≡ true) (some_is (sym e ∙ only-old h l)) takes)))
-      (λ (h : n ≤ i). let z : ◌≡◌ {A = ℕ} 0 1 = cc (none_left h l) in absurd (omega arith))
-      (lt-or-le i n))
-      (lt-or-le j m)

@@ -1,20 +1,13 @@
 -- A frame, of either table.
-use Rattle.std.specs.Prelude.{ℕ, ◌*◌, Bool, false, cond, List, leb}
+use Rattle.std.specs.Prelude.{ℕ, ◌*◌, Bool, false, cond, List, leb, Result, Ok, Err, Option as Maybe, Some, None}
 use Rattle.std.proofs.Math.Option.{Option, none, some}
-use Rattle.lent.specs.Paper.{Told, value, nothing, refused, unless, number}
+use Rattle.lent.specs.Paper.{Told, value, nothing, refused, unless, sum_number}
+use Rattle.lent.specs.declared.refusal.SumRefusal.{SumRefusal}
 use Rattle.lent.specs.Words.{is_set}
 use Rattle.lent.specs.Table.{old_frame_shape, new_frame_shape}
 use Rattle.framedata.specs.Records.{OldFrame, NewFrame, old_at, new_at}
 use Rattle.framedata.specs.Attributes.{attributes, type_number}
-use Rattle.framedata.specs.declared.frame.StackSize.{StackSize}
-use Rattle.framedata.specs.declared.frame.StackSize.TheVariants as stack
-use Rattle.framedata.specs.declared.frame.Program.{Program}
-use Rattle.framedata.specs.declared.frame.Program.TheVariants as program
 use Rattle.framedata.specs.declared.frame.FrameData.{FrameData}
-use Rattle.framedata.specs.declared.frame.Decoded.{Decoded}
-use Rattle.framedata.specs.declared.frame.Decoded.TheVariants as decoded
-use Rattle.framedata.specs.declared.frame.Framed.{Framed}
-use Rattle.framedata.specs.declared.frame.Framed.TheVariants as framed
 
 -- Sizes are in bytes. Only new frames have a stack size and a program.
 pub record Frame : Type 0 where
@@ -90,13 +83,10 @@ old_frame_spec s i = unless (old_frame_shape s) (from_some told_old (old_at s i)
 unfoldable pub new_frame_spec : List ℕ → ℕ → Told Frame
 new_frame_spec s i = unless (new_frame_shape s) (from_some (λ (n : NewFrame). value (from_new n)) (new_at s i))
 
-abbrev pub told_stack : StackSize → Option ℕ
-told_stack (stack.Bytes n) = some n
-told_stack stack.Nothing = none
-
-abbrev pub told_program : Program → Option ℕ
-told_program (program.At n) = some n
-told_program program.Nothing = none
+-- a number that may be missing, as the code has it
+abbrev pub told_optional : Maybe ℕ → Option ℕ
+told_optional (Some n) = some n
+told_optional None = none
 
 abbrev pub told_frame : FrameData → Frame
 told_frame f =
@@ -108,20 +98,21 @@ told_frame f =
       params_size = f.params_size;
       prolog_size = f.prolog_size;
       saved_regs_size = f.saved_regs_size;
-      max_stack_size = told_stack f.max_stack_size;
+      max_stack_size = told_optional f.max_stack_size;
       has_structured_eh = f.has_structured_eh;
       has_cpp_eh = f.has_cpp_eh;
       is_function_start = f.is_function_start;
       uses_base_pointer = f.uses_base_pointer;
-      program = told_program f.program;
+      program = told_optional f.program;
     }
 
-abbrev pub told_decoded : Decoded → Told Frame
-told_decoded (decoded.Frame f) = value (told_frame f)
-told_decoded decoded.TooLarge = refused 4
+-- a call's answer: the frame of a record;
+abbrev pub told_decoded : Result FrameData SumRefusal → Told Frame
+told_decoded (Ok f) = value (told_frame f)
+told_decoded (Err why) = refused (sum_number why)
 
-abbrev pub told_framed : Framed → Told Frame
-told_framed (framed.Frame f) = value (told_frame f)
-told_framed framed.Nothing = nothing
-told_framed (framed.Refused why) = refused (number why)
-told_framed framed.TooLarge = refused 4
+-- a frame, or none
+abbrev pub told_framed : Result (Maybe FrameData) SumRefusal → Told Frame
+told_framed (Ok (Some f)) = value (told_frame f)
+told_framed (Ok None) = nothing
+told_framed (Err why) = refused (sum_number why)

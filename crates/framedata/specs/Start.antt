@@ -1,13 +1,11 @@
 -- Starting an iteration at an address.
 use Rattle.std.specs.Prelude.{◌≡◌, ◌⊎◌, ℕ, ◌+◌, ◌-◌, ◌/◌, ◌≤◌, ◌<◌, Bool, true, cond, ◌||◌, List, length, ltb, eqb}
 use Rattle.std.proofs.Math.Option.{Option, none, some}
-use Rattle.lent.specs.Paper.{Told, value, refused, unless, number}
+use Rattle.lent.specs.Paper.{Told, value, unless}
 use Rattle.lent.specs.Order.{last_at}
 use Rattle.framedata.specs.Records.{Span, span_at, spans}
 use Rattle.framedata.specs.Tables.{fault_of_both}
 use Rattle.framedata.specs.declared.cursor.FrameCursor.{FrameCursor}
-use Rattle.framedata.specs.declared.start.FrameStarted.{FrameStarted}
-use Rattle.framedata.specs.declared.start.FrameStarted.TheVariants as started
 
 -- of a record that begins at a or before it: an exact hit, or code that reaches past a
 abbrev pub covers : ℕ → Span → Bool
@@ -37,7 +35,3 @@ unfoldable pub start_spec : ℕ → List ℕ → List ℕ → Told FrameCursor
 start_spec a old new =
     unless (fault_of_both old new)
     (value (record { old_index = place_spec a (spans 16 old); new_index = place_spec a (spans 32 new) }))
-
-abbrev pub told_started : FrameStarted → Told FrameCursor
-told_started (started.At c) = value c
-told_started (started.Refused why) = refused (number why)

@@ -1,15 +1,14 @@
 -- One step of the merged iteration over both tables.
-use Rattle.std.specs.Prelude.{ℕ, ◌+◌, Bool, true, cond, List, ltb}
+use Rattle.std.specs.Prelude.{ℕ, ◌+◌, Bool, true, cond, List, ltb, Option as Maybe, Some, None}
 use Rattle.std.proofs.Math.Option.{Option, none, some}
-use Rattle.lent.specs.Paper.{Told, value, nothing, refused, number}
+use Rattle.lent.specs.Paper.{Told, value, nothing, refused}
 use Rattle.framedata.specs.Records.{OldFrame, NewFrame, old_at, new_at}
-use Rattle.framedata.specs.Frame.{Frame, from_old, from_new, fits, told_frame}
+use Rattle.framedata.specs.Frame.{Frame, from_old, from_new, fits, told_framed}
 use Rattle.framedata.specs.Tables.{shape_of_both}
 use Rattle.framedata.specs.declared.cursor.FrameCursor.{FrameCursor}
 use Rattle.framedata.specs.declared.cursor.Next.{Next}
 use Rattle.framedata.specs.declared.cursor.Next.TheVariants as next
 use Rattle.framedata.specs.declared.cursor.FrameStep.{FrameStep}
-use Rattle.framedata.specs.declared.cursor.FrameStep.TheVariants as step
 
 -- What comes next: an old record, a new one, or a new one with an equal old one passed over.
 pub data Pick : Type 0 where
@@ -81,14 +80,11 @@ unfoldable pub step_spec : List ℕ → List ℕ → FrameCursor → Stepped
 step_spec s t c = unless_refused c (shape_of_both s t) (pick (old_at s c.old_index) (new_at t c.new_index))
 
 abbrev pub told_step : FrameStep → Stepped
-told_step (step.Frame f c) = record { answer = value (told_frame f); cursor = c }
-told_step (step.End c) = record { answer = nothing; cursor = c }
-told_step (step.Refused why c) = record { answer = refused (number why); cursor = c }
-told_step (step.TooLarge c) = record { answer = refused 4; cursor = c }
+told_step r = record { answer = told_framed r.answer; cursor = r.cursor }
 
 -- which table the code found to be next, at the records o and n
-abbrev pub told_next : OldFrame → NewFrame → Next → Option Pick
-told_next o n next.Old = some (old o)
-told_next o n next.New = some (new n)
-told_next o n next.Both = some (both n o)
-told_next o n next.End = none
+abbrev pub told_next : OldFrame → NewFrame → Maybe Next → Option Pick
+told_next o n (Some next.Old) = some (old o)
+told_next o n (Some next.New) = some (new n)
+told_next o n (Some next.Both) = some (both n o)
+told_next o n None = none

@@ -3,20 +3,21 @@ ghost use Rattle.std.specs.Prelude.{◌≡◌, ◌/◌};
 ghost use Rattle.framedata.specs.Attributes.{type_number, attributes, told_attributes};
 
 // A compiler specific frame type, as the old table has it; program strings have superseded it.
-#[derive(Clone, Copy)]
+// Each has the number that the Rust gives it.
+#[derive(Clone, Copy, Debug, PartialEq, Eq)]
 pub enum FrameType {
     // Frame which does not have any debug info.
-    Unknown,
+    Unknown = 255,
     // Frame pointer omitted, FPO info available.
-    FPO,
+    FPO = 0,
     // Kernel Trap frame.
-    Trap,
+    Trap = 1,
     // Kernel Trap frame.
-    TSS,
+    TSS = 2,
     // Standard EBP stackframe.
-    Standard,
+    Standard = 3,
     // Frame pointer omitted, FrameData info available.
-    FrameData,
+    FrameData = 4,
 }
 
 #[derive(Clone, Copy)]
@@ -43,15 +44,17 @@ fn frame_type(attributes: u16) -> FrameType
 }
 
 // The attributes by the masks of pdb.
-pub fn attributes_of(word: u16) -> Attributes
-    ensures { told_attributes result ≡ attributes word }
-{
-    let ty = frame_type(word);
-    Attributes {
-        ty,
-        prolog_size: word % 16,
-        saved_regs: word / 256 % 8,
-        has_seh: word / 512 % 2 == 1,
-        uses_base_pointer: word / 1024 % 2 == 1,
+impl From<u16> for Attributes {
+    ghost from_gives = { λ word read. told_attributes read ≡ attributes word };
+
+    #[tactic(auto, unfolding(crate::specs::Attributes::attributes))]
+    fn from(word: u16) -> Attributes {
+        Attributes {
+            ty: frame_type(word),
+            prolog_size: word % 16,
+            saved_regs: word / 256 % 8,
+            has_seh: word / 512 % 2 == 1,
+            uses_base_pointer: word / 1024 % 2 == 1,
+        }
     }
 }

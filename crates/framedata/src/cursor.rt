@@ -1,31 +1,29 @@
 // The merged iteration over both tables, in order of code start.
 ghost use Rattle.std.specs.Prelude.{◌≡◌};
-ghost use Rattle.lent.specs.Table.{if_present};
+ghost use Rattle.lent.specs.Table.{bytes_of};
+ghost use Rattle.framedata.specs.Frame.{told_framed};
 ghost use Rattle.framedata.specs.Records.{old_record, new_record, old_at, new_at};
 ghost use Rattle.framedata.specs.Step.{at_start, pick, step_spec, told_step, told_next};
 
-use crate::frame::{Decoded, FrameData, new_frame, old_frame};
-use crate::tables::shapes;
-use lent::{Checked, NEW_FRAME, OLD_FRAME, Refusal};
+use crate::frame::{FrameData, new_frame, old_frame};
+use crate::tables::FrameTable;
+use lent::{NEW_FRAMES, OLD_FRAMES, SumRefusal, bytes_or_none};
+use std::cmp::Ordering;
 
 // Where an iteration stands: the place of the next record in each table.
 #[repr(C)]
-#[derive(Clone, Copy)]
+#[derive(Clone, Copy, Debug, PartialEq, Eq)]
 pub struct FrameCursor {
     pub old_index: usize,
     pub new_index: usize,
 }
 
-// What one step answers, with the cursor to go on from.
-#[derive(Clone, Copy)]
-pub enum FrameStep {
-    Frame(FrameData, FrameCursor),
-    // No frame is left; the cursor is as it was.
-    End(FrameCursor),
-    // A table is refused; the cursor is as it was.
-    Refused(Refusal, FrameCursor),
-    // The frame's locals are too large, refusal 4; the cursor is as it was.
-    TooLarge(FrameCursor),
+// What one step answers, with the cursor to go on from: the next frame, none where no frame is left, or a refusal.
+// Only a frame moves the cursor.
+#[derive(Clone, Copy, Debug, PartialEq, Eq)]
+pub struct FrameStep {
+    pub answer: Result<Option<FrameData>, SumRefusal>,
+    pub cursor: FrameCursor,
 }
 
 // Which table's record comes next.
@@ -35,32 +33,6 @@ pub enum Next {
     New,
     // The two begin at one address: the new one, and the old one is passed over.
     Both,
-    End,
-}
-
-// Which of the records at i and at j comes next.
-fn lesser(old: &[u8], i: usize, new: &[u8], j: usize) -> Next
-    ensures { told_next (old_record old.now i) (new_record new.now j) result
-        ≡ pick (old_at old.now i) (new_at new.now j) }
-{
-    if i >= old.len() / OLD_FRAME {
-        if j >= new.len() / NEW_FRAME {
-            return Next::End;
-        }
-        return Next::New;
-    }
-    if j >= new.len() / NEW_FRAME {
-        return Next::Old;
-    }
-    let old_start = lent::u32_at(old, OLD_FRAME * i);
-    let new_start = lent::u32_at(new, NEW_FRAME * j);
-    if old_start < new_start {
-        return Next::Old;
-    }
-    if new_start < old_start {
-        return Next::New;
-    }
-    Next::Both
 }
 
 impl FrameCursor {
@@ -74,44 +46,69 @@ impl FrameCursor {
         }
     }
 
-    // The next frame in order of code start, from either table. Where both tables have a frame with
-    // one code start, the new one is yielded alone. A table that is marked absent counts as empty.
-    pub fn step(mut self, old_present: bool, old: &[u8], new_present: bool, new: &[u8]) -> FrameStep
-        ensures { told_step result
-            ≡ step_spec (if_present old_present old.now) (if_present new_present new.now) self }
+    // Which of the records at the cursor comes next, if there is one.
+    #[tactic(auto, unfolding(crate::specs::Step::lesser))]
+    fn next_record(self, old: &[u8], new: &[u8]) -> Option<Next>
+        ensures { told_next (old_record old.now self.old_index) (new_record new.now self.new_index) result
+            ≡ pick (old_at old.now self.old_index) (new_at new.now self.new_index) }
     {
-        let olds = lent::if_present(old_present, old);
-        let news = lent::if_present(new_present, new);
-        let shaped = shapes(olds, news);
-        if let Checked::Refused(why) = shaped {
-            return FrameStep::Refused(why, self);
-        }
-        let i = self.old_index;
-        let j = self.new_index;
-        let next = lesser(olds, i, news, j);
-        match next {
-            Next::End => FrameStep::End(self),
-            Next::Old => {
-                let decoded = old_frame(olds, i);
-                match decoded {
-                    Decoded::Frame(frame) => {
-                        self.old_index = i + 1;
-                        FrameStep::Frame(frame, self)
-                    }
-                    Decoded::TooLarge => FrameStep::TooLarge(self),
+        let old_left = self.old_index < old.len() / OLD_FRAMES.width;
+        let new_left = self.new_index < new.len() / NEW_FRAMES.width;
+        match (old_left, new_left) {
+            (false, false) => None,
+            (true, false) => Some(Next::Old),
+            (false, true) => Some(Next::New),
+            (true, true) => {
+                let old_start = lent::u32_at(old, OLD_FRAMES.width * self.old_index);
+                let new_start = lent::u32_at(new, NEW_FRAMES.width * self.new_index);
+                match old_start.cmp(&new_start) {
+                    Ordering::Less => Some(Next::Old),
+                    Ordering::Greater => Some(Next::New),
+                    Ordering::Equal => Some(Next::Both),
                 }
             }
-            Next::New => {
-                let frame = new_frame(news, j);
-                self.new_index = j + 1;
-                FrameStep::Frame(frame, self)
+        }
+    }
+
+    // The next frame. The cursor moves past it, and stays where there is none to yield.
+    #[tactic(auto, unfolding(crate::specs::Step::step_spec))]
+    fn advance(&mut self, table: FrameTable) -> Result<Option<FrameData>, SumRefusal>
+        ensures { record { answer = told_framed result; cursor = self.new }
+            ≡ step_spec (bytes_of table.entry.old) (bytes_of table.entry.new) self.old }
+    {
+        table.shapes()?;
+        let old = bytes_or_none(table.old);
+        let new = bytes_or_none(table.new);
+        match self.next_record(old, new) {
+            None => Ok(None),
+            Some(Next::Old) => {
+                let frame = old_frame(old, self.old_index)?;
+                self.old_index += 1;
+                Ok(Some(frame))
             }
-            Next::Both => {
-                let frame = new_frame(news, j);
-                self.old_index = i + 1;
-                self.new_index = j + 1;
-                FrameStep::Frame(frame, self)
+            Some(Next::New) => {
+                let frame = new_frame(new, self.new_index);
+                self.new_index += 1;
+                Ok(Some(frame))
             }
+            Some(Next::Both) => {
+                let frame = new_frame(new, self.new_index);
+                self.old_index += 1;
+                self.new_index += 1;
+                Ok(Some(frame))
+            }
+        }
+    }
+
+    // The next frame in order of code start, from either table. Where both tables have a frame with
+    // one code start, the new one is yielded alone.
+    pub fn step(mut self, table: FrameTable) -> FrameStep
+        ensures { told_step result ≡ step_spec (bytes_of table.entry.old) (bytes_of table.entry.new) self }
+    {
+        let answer = self.advance(table);
+        FrameStep {
+            answer,
+            cursor: self,
         }
     }
 }

@@ -1,28 +1,16 @@
 // A frame, and the frame at a place of one table.
-ghost use Rattle.std.specs.Prelude.{◌≡◌, ◌*◌, ◌/◌, ◌<◌, length};
+ghost use Rattle.std.specs.Prelude.{◌≡◌, ◌/◌, ◌<◌, length, ltb};
+ghost use Rattle.lent.specs.Paper.{number, told_value, unless, value};
+ghost use Rattle.lent.specs.Table.{shape_fault};
 ghost use Rattle.framedata.specs.Records.{old_record, new_record};
 ghost use Rattle.framedata.specs.Frame.{told_old, from_new, told_frame, told_decoded, told_framed};
 ghost use Rattle.framedata.specs.Frame.{old_frame_spec, new_frame_spec};
 
-use crate::attributes::{FrameType, attributes_of};
-use lent::{Checked, NEW_FRAME, OLD_FRAME, Refusal};
-
-// The maximum number of bytes pushed on the stack.
-#[derive(Clone, Copy)]
-pub enum StackSize {
-    Bytes(u32),
-    Nothing,
-}
-
-// A program string that allows to reconstruct register values for a frame, by its offset in the string table.
-#[derive(Clone, Copy)]
-pub enum Program {
-    At(u32),
-    Nothing,
-}
+use crate::attributes::{Attributes, FrameType};
+use lent::{Kind, NEW_FRAMES, OLD_FRAMES, Refusal, SumRefusal};
 
 // Frame data for a code block.
-#[derive(Clone, Copy)]
+#[derive(Clone, Copy, Debug, PartialEq, Eq)]
 pub struct FrameData {
     // Compiler-specific frame type.
     pub ty: FrameType,
@@ -39,7 +27,7 @@ pub struct FrameData {
     // Size of saved registers pushed on the stack in bytes.
     pub saved_regs_size: u16,
     // The maximum number of bytes pushed on the stack.
-    pub max_stack_size: StackSize,
+    pub max_stack_size: Option<u32>,
     // Indicates that structured exception handling is in effect.
     pub has_structured_eh: bool,
     // Indicates that C++ exception handling is in effect.
@@ -48,63 +36,44 @@ pub struct FrameData {
     pub is_function_start: bool,
     // Indicates that this function uses the EBP register.
     pub uses_base_pointer: bool,
-    // A program string allowing to reconstruct register values for this frame.
-    pub program: Program,
-}
-
-// What asking for the frame at a place of one table answers.
-#[derive(Clone, Copy)]
-pub enum Framed {
-    Frame(FrameData),
-    // There is no such place.
-    Nothing,
-    // The table is refused.
-    Refused(Refusal),
-    // The size of the locals does not fit: refusal 4.
-    TooLarge,
+    // A program string that allows to reconstruct register values for this frame, by its offset in the string table.
+    pub program: Option<u32>,
 }
 
 // The frame of an old record, unless its locals are too large.
-#[derive(Clone, Copy)]
-pub enum Decoded {
-    Frame(FrameData),
-    TooLarge,
-}
-
-pub fn old_frame(table: &[u8], place: usize) -> Decoded
+#[tactic(auto, unfolding(crate::specs::Frame::from_old), using(crate::proofs::Bits::few_saved))]
+pub(crate) fn old_frame(table: &[u8], place: usize) -> Result<FrameData, SumRefusal>
     requires { place < length table.now / 16 }
     ensures { told_decoded result ≡ told_old (old_record table.now place) }
 {
-    let at = OLD_FRAME * place;
+    let at = OLD_FRAMES.width * place;
     let locals = lent::u32_at(table, at + 8);
     let params = lent::u16_at(table, at + 12);
-    if locals > 1073741823 {
-        return Decoded::TooLarge;
-    }
-    let attributes = attributes_of(lent::u16_at(table, at + 14));
-    let ty = attributes.ty;
-    Decoded::Frame(FrameData {
-        ty,
+    let attributes = Attributes::from(lent::u16_at(table, at + 14));
+    Ok(FrameData {
+        ty: attributes.ty,
         code_start: lent::u32_at(table, at),
         code_size: lent::u32_at(table, at + 4),
-        locals_size: locals * 4,
-        params_size: (params as u32) * 4,
+        locals_size: locals.checked_mul(4).ok_or(SumRefusal::TooLarge)?,
+        params_size: u32::from(params) * 4,
         prolog_size: attributes.prolog_size,
         saved_regs_size: attributes.saved_regs * 4,
-        max_stack_size: StackSize::Nothing,
+        max_stack_size: None,
         has_structured_eh: attributes.has_seh,
         has_cpp_eh: false,
         is_function_start: false,
         uses_base_pointer: attributes.uses_base_pointer,
-        program: Program::Nothing,
+        program: None,
     })
 }
 
-pub fn new_frame(table: &[u8], place: usize) -> FrameData
+// The frame of a new record.
+#[tactic(auto, unfolding(crate::specs::Frame::from_new))]
+pub(crate) fn new_frame(table: &[u8], place: usize) -> FrameData
     requires { place < length table.now / 32 }
     ensures { told_frame result ≡ from_new (new_record table.now place) }
 {
-    let at = NEW_FRAME * place;
+    let at = NEW_FRAMES.width * place;
     let flags = lent::u32_at(table, at + 28);
     FrameData {
         ty: FrameType::FrameData,
@@ -114,44 +83,45 @@ pub fn new_frame(table: &[u8], place: usize) -> FrameData
         params_size: lent::u32_at(table, at + 12),
         prolog_size: lent::u16_at(table, at + 24),
         saved_regs_size: lent::u16_at(table, at + 26),
-        max_stack_size: StackSize::Bytes(lent::u32_at(table, at + 16)),
+        max_stack_size: Some(lent::u32_at(table, at + 16)),
         has_structured_eh: flags % 2 == 1,
         has_cpp_eh: flags / 2 % 2 == 1,
         is_function_start: flags / 4 % 2 == 1,
         uses_base_pointer: false,
-        program: Program::At(lent::u32_at(table, at + 20)),
+        program: Some(lent::u32_at(table, at + 20)),
     }
 }
 
-// The frame at a place of the old table.
-pub fn old_frame_at(table: &[u8], place: usize) -> Framed
+// Whether a table of one kind, of a right length, has a record at a place. The calls below share this and differ in how
+// a record is read: a trait over the kind, with a ghost member for what its record gives, would be longer than both.
+fn has(kind: Kind, table: &[u8], place: usize) -> Result<bool, Refusal>
+    ensures { told_value number result ≡ unless (shape_fault (record { width = kind.width; most = kind.most }) table.now)
+        (value (ltb place (length table.now / kind.width))) }
+{
+    kind.shape(table)?;
+    Ok(place < table.len() / kind.width)
+}
+
+// The frame at a place of the old table, none at or past its end.
+#[tactic(auto, unfolding(crate::specs::Frame::old_frame_spec))]
+pub fn old_frame_at(table: &[u8], place: usize) -> Result<Option<FrameData>, SumRefusal>
     ensures { told_framed result ≡ old_frame_spec table.now place }
 {
-    let shaped = lent::old_frame_shape(table);
-    if let Checked::Refused(why) = shaped {
-        return Framed::Refused(why);
-    }
-    if place >= table.len() / OLD_FRAME {
-        return Framed::Nothing;
-    }
-    let decoded = old_frame(table, place);
-    match decoded {
-        Decoded::Frame(frame) => Framed::Frame(frame),
-        Decoded::TooLarge => Framed::TooLarge,
+    if has(OLD_FRAMES, table, place)? {
+        Ok(Some(old_frame(table, place)?))
+    } else {
+        Ok(None)
     }
 }
 
-// The frame at a place of the new table.
-pub fn new_frame_at(table: &[u8], place: usize) -> Framed
+// The frame at a place of the new table, none at or past its end.
+#[tactic(auto, unfolding(crate::specs::Frame::new_frame_spec))]
+pub fn new_frame_at(table: &[u8], place: usize) -> Result<Option<FrameData>, SumRefusal>
     ensures { told_framed result ≡ new_frame_spec table.now place }
 {
-    let shaped = lent::new_frame_shape(table);
-    if let Checked::Refused(why) = shaped {
-        return Framed::Refused(why);
+    if has(NEW_FRAMES, table, place)? {
+        Ok(Some(new_frame(table, place)))
+    } else {
+        Ok(None)
     }
-    if place >= table.len() / NEW_FRAME {
-        return Framed::Nothing;
-    }
-    let frame = new_frame(table, place);
-    Framed::Frame(frame)
 }

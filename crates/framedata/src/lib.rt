@@ -9,6 +9,5 @@ mod tables;
 
 pub use attributes::FrameType;
 pub use cursor::{FrameCursor, FrameStep};
-pub use frame::{FrameData, Framed, Program, StackSize, new_frame_at, old_frame_at};
-pub use start::{FrameStarted, start_at};
-pub use tables::{Emptiness, is_empty};
+pub use frame::{FrameData, new_frame_at, old_frame_at};
+pub use tables::FrameTable;

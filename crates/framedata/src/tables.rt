@@ -1,64 +1,35 @@
 // Both tables together.
 ghost use Rattle.std.specs.Prelude.{◌≡◌};
-ghost use Rattle.lent.specs.Paper.{told_checked, first_fault};
-ghost use Rattle.lent.specs.Table.{if_present};
-ghost use Rattle.framedata.specs.Tables.{shape_of_both, fault_of_both, empty_spec, told_emptiness};
+ghost use Rattle.lent.specs.Paper.{number, told_fault, told_value};
+ghost use Rattle.lent.specs.Table.{bytes_of};
+ghost use Rattle.framedata.specs.Tables.{shape_of_both, empty_spec};
 
-use lent::{Checked, NEW_FRAME, OLD_FRAME, Refusal};
+use lent::{NEW_FRAMES, OLD_FRAMES, Refusal, bytes_or_none};
 
-// Whether there is no frame at all.
+// The two tables that frames come from. An absent one counts as empty.
 #[derive(Clone, Copy)]
-pub enum Emptiness {
-    Yes,
-    No,
-    // A table is refused.
-    Refused(Refusal),
+pub struct FrameTable<'t> {
+    pub old: Option<&'t [u8]>,
+    pub new: Option<&'t [u8]>,
 }
 
-// Of two tables' refusals the first wins.
-fn first_of(old: Checked, new: Checked) -> Checked
-    ensures { told_checked result ≡ first_fault (told_checked old) (told_checked new) }
-{
-    match old {
-        Checked::Good => new,
-        Checked::Refused(why) => Checked::Refused(why),
+impl<'t> FrameTable<'t> {
+    // Whether the lengths of both tables are right: the old one first.
+    pub(crate) fn shapes(self) -> Result<(), Refusal>
+        ensures { told_fault result ≡ shape_of_both (bytes_of self.entry.old) (bytes_of self.entry.new) }
+    {
+        OLD_FRAMES.shape(bytes_or_none(self.old))?;
+        NEW_FRAMES.shape(bytes_or_none(self.new))
     }
-}
 
-// Whether the lengths of both tables are right: the old one first.
-pub fn shapes(old: &[u8], new: &[u8]) -> Checked
-    ensures { told_checked result ≡ shape_of_both old.now new.now }
-{
-    let old_shape = lent::old_frame_shape(old);
-    let new_shape = lent::new_frame_shape(new);
-    first_of(old_shape, new_shape)
-}
-
-// Whether both tables are right, their order too: the old one first, and in full.
-pub fn checks(old: &[u8], new: &[u8]) -> Checked
-    ensures { told_checked result ≡ fault_of_both old.now new.now }
-{
-    let old_check = lent::old_frame_check(old);
-    let new_check = lent::new_frame_check(new);
-    first_of(old_check, new_check)
-}
-
-// Indicates whether any frame data is available. A table that is marked absent counts as empty.
-pub fn is_empty(old_present: bool, old: &[u8], new_present: bool, new: &[u8]) -> Emptiness
-    ensures { told_emptiness result
-        ≡ empty_spec (if_present old_present old.now) (if_present new_present new.now) }
-{
-    let olds = lent::if_present(old_present, old);
-    let news = lent::if_present(new_present, new);
-    let shaped = shapes(olds, news);
-    if let Checked::Refused(why) = shaped {
-        return Emptiness::Refused(why);
+    // Indicates whether any frame data is available.
+    #[tactic(auto, unfolding(crate::specs::Tables::empty_spec))]
+    pub fn is_empty(self) -> Result<bool, Refusal>
+        ensures { told_value number result ≡ empty_spec (bytes_of self.entry.old) (bytes_of self.entry.new) }
+    {
+        self.shapes()?;
+        let olds = bytes_or_none(self.old).len() / OLD_FRAMES.width;
+        let news = bytes_or_none(self.new).len() / NEW_FRAMES.width;
+        Ok(olds == 0 && news == 0)
     }
-    if olds.len() / OLD_FRAME != 0 {
-        return Emptiness::No;
-    }
-    if news.len() / NEW_FRAME != 0 {
-        return Emptiness::No;
-    }
-    Emptiness::Yes
 }

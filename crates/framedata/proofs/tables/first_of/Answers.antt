@@ -1,5 +1,0 @@
-use Rattle.framedata.proofs.tables.first_of.Goals as goal
-
-pub returns-in-Refused : goal.returns-in-Refused
-returns-in-Refused c =
-    rw c.in-Refused.is
