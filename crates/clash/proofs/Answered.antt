@@ -20,7 +20,7 @@ use Rattle.omap.proofs.Last.{sources-keys, in_order}
 use borrow.Author.Tests.{le-leb}
 use Rattle.clash.specs.Clash.{Pair, one, two, sources_of, first_clash, least_two, clash_spec, back_spec}
 use Rattle.clash.specs.Demand.{Source, Clash, LeastClash, OneSource, TwoSources, Reported}
-use Rattle.clash.proofs.Pairs.{no_pieces}
+use Rattle.clash.proofs.LeastPair.{no_pieces}
 use Rattle.clash.proofs.Runs.{sources-by-pieces}
 use Rattle.clash.proofs.Addresses.{no-clash, a-clash, no_source}
 use Rattle.clash.proofs.Smaller.{smaller-fits, target_fits}

@@ -18,7 +18,7 @@ use Rattle.lent.proofs.Field.{Bytes, below}
 use Rattle.lent.proofs.Logic.{lt-or-le}
 use Rattle.omap.specs.Records.{entry_at, rest}
 use Rattle.omap.specs.Window.{next_of, piece_of, pieces}
-use Rattle.omap.specs.declared.walk.Piece.{Piece}
+use Rattle.omap.specs.Window.{Piece}
 use Rattle.omap.specs.Walk.{part_at, Below}
 use Rattle.omap.proofs.Last.{src}
 use Rattle.omap.proofs.Expansion.{or_some}
@@ -26,7 +26,7 @@ use Rattle.omap.proofs.Walking.{tgt, none_after}
 use Rattle.omap.proofs.Pieces.{next-some, next-none, piece-zero, piece-some, piece_is, step-none, step-some}
 use Rattle.clash.specs.Clash.{Pair}
 use Rattle.clash.specs.Shared.{first_shared, found_below, Better}
-use Rattle.clash.specs.declared.Best.{Best}
+use Rattle.clash.specs.declared.shared.Shared.{Shared}
 use Rattle.clash.proofs.Sharing.{shared-high, shared-low, shared-here, shared-first, shared-nothing, or_nothing}
 
 -- where a window starts plays no part in the pieces of records past it
@@ -89,7 +89,7 @@ module _ (s : List ℕ) (b last : ℕ) (u : Below s b last) (r : rising (keys 8 
       step-some s 0 b i in_table q (p ∙ rw (e, f))
 
   -- what record i adds to the best found
-  module _ (from : ℕ) (best : Best) (m : from < best.target) where
+  module _ (from : ℕ) (best : Shared) (m : from < best.target) where
     same : first_shared (Left i) from (best.target - from) ≡ first_shared (Left (i + 1)) from (best.target - from)
         → Better s b i from best best
     same e = record {
@@ -148,13 +148,13 @@ module _ (s : List ℕ) (b last : ℕ) (u : Below s b last) (r : rising (keys 8 
           (with-piece ∙ shared-here q (Left (i + 1)) from best.target (omega arith) k (omega arith))
 
 -- the search: what the records left give, and the best found, is what all of them give
-pub record Searching (s : List ℕ) (b from end start j : ℕ) (best : Best) : Type 0 where
+pub record Searching (s : List ℕ) (b from end start j : ℕ) (best : Shared) : Type 0 where
   pub low : from < best.target
   pub high : best.target ≤ end
   pub all : or_else (first_shared (pieces 0 b (rest s j)) from (best.target - from)) (found_below end best)
       ≡ first_shared (pieces 0 b (rest s start)) from (end - from)
 
-found_none : (o : Option Pair) (end : ℕ) (best : Best) → end ≤ best.target → or_else o (found_below end best) ≡ o
+found_none : (o : Option Pair) (end : ℕ) (best : Shared) → end ≤ best.target → or_else o (found_below end best) ≡ o
 found_none o end best h = rw (le-ltb best.target end h) (or_nothing o)
 
 module _ (s : List ℕ) (b from end start : ℕ) where
@@ -166,8 +166,8 @@ module _ (s : List ℕ) (b from end start : ℕ) where
         (record { target = end; source = 0 }) (omega arith);
   }
 
-  module _ (j : ℕ) (best : Best) (w : Searching s b from end start j best) where
-    module _ (r : Best) (k : Better s b j from best r) where
+  module _ (j : ℕ) (best : Shared) (w : Searching s b from end start j best) where
+    module _ (r : Shared) (k : Better s b j from best r) where
       all_after : or_else (first_shared (pieces 0 b (rest s (j + 1))) from (r.target - from)) (found_below end r)
           ≡ first_shared (pieces 0 b (rest s start)) from (end - from)
       all_after = sym (k.adds end w.high) ∙ w.all

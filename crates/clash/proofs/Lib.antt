@@ -2,7 +2,7 @@ pub mod Sent
 pub mod Runs
 pub mod Sharing
 pub mod Later
-pub mod Pairs
+pub mod LeastPair
 pub mod Backs
 pub mod Answers
 pub mod Addresses

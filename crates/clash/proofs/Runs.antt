@@ -14,9 +14,10 @@ use borrow.Author.Tests.{lt-ltb, le-ltb, le-leb, lt-leb, eq-eqb, ne_eqb}
 use Rattle.lent.specs.Words.{or_else, put}
 use Rattle.lent.specs.Order.{rising}
 use Rattle.lent.proofs.Logic.{lt-or-le}
-use Rattle.omap.specs.Records.{Entry, sources, single}
+use Rattle.omap.specs.Records.{sources, single}
+use Rattle.omap.specs.declared.lookups.Entry.{Entry}
 use Rattle.omap.specs.Window.{pieces}
-use Rattle.omap.specs.declared.walk.Piece.{Piece}
+use Rattle.omap.specs.Window.{Piece}
 use Rattle.omap.specs.Expand.{range}
 use Rattle.clash.specs.Clash.{sources_of, Pair, paired_or, first_clash}
 use Rattle.clash.specs.Shared.{source_in, sources_in, first_shared, from_piece, clash_of}

@@ -14,9 +14,10 @@ use Rattle.lent.specs.Words.{put}
 use Rattle.lent.specs.Order.{rising_after, rising, last_at}
 use Rattle.lent.proofs.Rising.{after-rising}
 use Rattle.lent.proofs.Logic.{lt-or-le}
-use Rattle.omap.specs.Records.{Entry, sources, moved, single}
+use Rattle.omap.specs.Records.{sources, moved, single}
+use Rattle.omap.specs.declared.lookups.Entry.{Entry}
 use Rattle.omap.specs.Window.{next_of, pieces}
-use Rattle.omap.specs.declared.walk.Piece.{Piece}
+use Rattle.omap.specs.Window.{Piece}
 use Rattle.omap.specs.Expand.{up_from, range}
 use Rattle.omap.proofs.Pieces.{piece-empty, piece-zero, piece-some}
 use Rattle.omap.proofs.Expansion.{range_split, single-rest, single-below, single-moved, after_same, no-piece}

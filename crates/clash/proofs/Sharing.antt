@@ -6,7 +6,7 @@ use native.Mathlib.Omega.{arith}
 use mathlib.Core.List.{List, [], ◌∷◌}
 use mathlib.Core.Option.{Option, none, some}
 use Rattle.lent.specs.Words.{or_else, put}
-use Rattle.omap.specs.declared.walk.Piece.{Piece}
+use Rattle.omap.specs.Window.{Piece}
 use Rattle.clash.specs.Clash.{Pair, paired_or}
 use Rattle.clash.specs.Shared.{source_in, sources_in, first_shared}
 use Rattle.clash.proofs.Runs.{source-below, source-past, source-here}

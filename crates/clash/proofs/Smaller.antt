@@ -9,10 +9,10 @@ use mathlib.Core.Bool.{true}
 use mathlib.Core.List.{List, [], ◌∷◌}
 use Rattle.lent.specs.Words.{put}
 use Rattle.lent.proofs.Logic.{lt-or-le}
-use Rattle.omap.specs.Records.{Entry}
+use Rattle.omap.specs.declared.lookups.Entry.{Entry}
 use Rattle.omap.specs.Window.{next_of, piece_of, pieces}
 use Rattle.omap.specs.Output.{all_fit}
-use Rattle.omap.specs.declared.walk.Piece.{Piece}
+use Rattle.omap.specs.Window.{Piece}
 use Rattle.omap.proofs.Pieces.{between, piece-empty, piece-zero, piece-some, fits-target, fits-less, fit-more}
 use Rattle.omap.proofs.Pieces.{first_fits, others-fit}
 use Rattle.clash.specs.Shared.{sources_in}

@@ -1,14 +1,16 @@
 -- Addresses of a window that share a translation, and the sources of a target, address by address.
 use Rattle.std.specs.Prelude.{ℕ, Bool, true, false, cond, List, [], ◌∷◌, eqb}
 use Rattle.std.proofs.Math.Option.{Option, none, some}
-use Rattle.lent.specs.Paper.{Told, value, nothing, refused, unless, number}
+use Rattle.std.specs.Prelude.{Result, Ok, Err, Option as Maybe, Some, None}
+use Rattle.lent.specs.Paper.{Told, value, nothing, refused, unless, sum_number}
+use Rattle.lent.specs.Words.{optional}
+use Rattle.lent.specs.declared.refusal.SumRefusal.{SumRefusal}
 use Rattle.omap.specs.Records.{records, single}
 use Rattle.omap.specs.Output.{window_fault}
 use Rattle.omap.specs.Expand.{range}
-use Rattle.clash.specs.declared.Clashed.{Clashed}
-use Rattle.clash.specs.declared.Clashed.TheVariants as clashed
-use Rattle.clash.specs.declared.Back.{Back}
-use Rattle.clash.specs.declared.Back.TheVariants as back
+pub use Rattle.clash.specs.declared.pairs.Pair.{Pair}
+use Rattle.clash.specs.declared.sources.Sources as kept
+use Rattle.clash.specs.declared.sources.Sources.TheVariants as sources
 
 -- a translation is t
 unfoldable pub lands_on : Option ℕ → ℕ → Bool
@@ -25,10 +27,6 @@ abbrev pub sharing : (ℕ → Option ℕ) → Option ℕ → List ℕ → List �
 sharing f none l = []
 sharing f (some t) l = sources_of f t l
 
-pub record Pair : Type 0 where
-  pub first : ℕ
-  pub second : ℕ
-
 -- x and the first of the others; if there are no others, what is found later
 unfoldable pub paired_or : ℕ → List ℕ → Option Pair → Option Pair
 paired_or x [] later = later
@@ -40,11 +38,9 @@ first_clash f [] = none
 first_clash f (x ∷ l) = paired_or x (sharing f (f x) l) (first_clash f l)
 
 -- the clash check's value: "single" is none
-abbrev pub told_clashed : Clashed → Told (Option Pair)
-told_clashed clashed.Single = value none
-told_clashed (clashed.Pair x y) = value (some (record { first = x; second = y }))
-told_clashed (clashed.Refused why) = refused (number why)
-told_clashed clashed.TooLarge = refused 4
+abbrev pub told_clashed : Result (Maybe Pair) SumRefusal → Told (Option Pair)
+told_clashed (Ok p) = value (optional p)
+told_clashed (Err why) = refused (sum_number why)
 
 -- 1, 2, 3, 4, "single", or the least pair of window addresses with equal translations
 unfoldable pub clash_spec : List ℕ → ℕ → ℕ → Told (Option Pair)
@@ -55,12 +51,15 @@ pub data Sources : Type 0 where
   one : ℕ → Sources
   two : ℕ → ℕ → Sources
 
-abbrev pub told_back : Back → Told Sources
-told_back back.Nothing = nothing
-told_back (back.One x) = value (one x)
-told_back (back.Two x y) = value (two x y)
-told_back (back.Refused why) = refused (number why)
-told_back back.TooLarge = refused 4
+-- a way back's value
+abbrev pub told_kept : Maybe kept.Sources → Told Sources
+told_kept None = nothing
+told_kept (Some (sources.One x)) = value (one x)
+told_kept (Some (sources.Two x y)) = value (two x y)
+
+abbrev pub told_back : Result (Maybe kept.Sources) SumRefusal → Told Sources
+told_back (Ok found) = told_kept found
+told_back (Err why) = refused (sum_number why)
 
 -- none, the one source or the two least, of all sources in order
 unfoldable pub least_two : List ℕ → Told Sources

@@ -1,3 +1,4 @@
 pub mod Clash
 pub mod Shared
 pub mod Demand
+pub mod Kept

@@ -1,16 +1,11 @@
 -- The same by pieces: what the crate's own functions hand each other. No public promise cites this file.
-use Rattle.std.specs.Prelude.{ℕ, zero, suc, ◌+◌, ◌-◌, ◌≤◌, ◌≡◌, cond, ◌&&◌, List, [], ◌∷◌, leb, ltb}
+use Rattle.std.specs.Prelude.{ℕ, zero, suc, ◌+◌, ◌-◌, ◌≤◌, ◌≡◌, cond, ◌&&◌, List, [], ◌∷◌, leb, ltb, Option as Maybe, Some, None}
 use Rattle.std.proofs.Math.Option.{Option, none, some}
 use Rattle.lent.specs.Words.{or_else, put}
 use Rattle.omap.specs.Records.{rest}
-use Rattle.omap.specs.Window.{pieces}
-use Rattle.omap.specs.declared.walk.Piece.{Piece}
+use Rattle.omap.specs.Window.{Piece, pieces}
 use Rattle.clash.specs.Clash.{Pair, paired_or}
-use Rattle.clash.specs.declared.Shared.{Shared}
-use Rattle.clash.specs.declared.Shared.TheVariants as shared
-use Rattle.clash.specs.declared.Best.{Best}
-use Rattle.clash.specs.declared.Kept.{Kept}
-use Rattle.clash.specs.declared.Kept.TheVariants as kept
+use Rattle.clash.specs.declared.shared.Shared.{Shared}
 
 -- the address of a piece that goes to t
 unfoldable pub source_in : ℕ → Piece → Option ℕ
@@ -36,25 +31,19 @@ unfoldable pub clash_of : List Piece → Option Pair
 clash_of [] = none
 clash_of (p ∷ l) = or_else (from_piece p (first_shared l p.to p.size)) (clash_of l)
 
-abbrev pub told_shared : Shared → Option Pair
-told_shared shared.Nothing = none
-told_shared (shared.At t y) = some (record { first = t; second = y })
+abbrev pub told_shared : Maybe Shared → Option Pair
+told_shared None = none
+told_shared (Some m) = some (record { first = m.target; second = m.source })
 
 -- the least shared target found so far, if it is below the end of the search
-abbrev pub found_below : ℕ → Best → Option Pair
+abbrev pub found_below : ℕ → Shared → Option Pair
 found_below end best = cond (ltb best.target end) (some (record { first = best.target; second = best.source })) none
 
 -- r is the best of `best` and of record i: with the records after it, searched up to r, it gives what those from i on
 -- gave
-pub record Better (s : List ℕ) (b i from : ℕ) (best r : Best) : Type 0 where
+pub record Better (s : List ℕ) (b i from : ℕ) (best r : Shared) : Type 0 where
   pub low : from ≤ r.target
   pub high : r.target ≤ best.target
   pub adds : (end : ℕ) → best.target ≤ end
       → or_else (first_shared (pieces 0 b (rest s i)) from (best.target - from)) (found_below end best)
       ≡ or_else (first_shared (pieces 0 b (rest s (i + 1))) from (r.target - from)) (found_below end r)
-
--- the sources that a walk over the pieces has kept
-abbrev pub so_far : Kept → List ℕ
-so_far kept.Nothing = []
-so_far (kept.One x) = x ∷ []
-so_far (kept.Two x y) = x ∷ (y ∷ [])

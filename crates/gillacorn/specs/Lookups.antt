@@ -2,7 +2,7 @@
 use Rattle.std.specs.Prelude.{ℕ}
 use Rattle.std.proofs.Math.Option.{Option, none, some}
 use Rattle.lent.specs.Paper.{Told, value, nothing, refused}
-use Rattle.omap.specs.Records.{Entry}
+use Rattle.omap.specs.declared.lookups.Entry.{Entry}
 use Rattle.omap.specs.Quick.{Probed}
 use Rattle.gillacorn.specs.declared.lookups.RecordAnswer.{RecordAnswer}
 use Rattle.gillacorn.specs.declared.lookups.QuickAnswer.{QuickAnswer}

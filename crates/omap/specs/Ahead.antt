@@ -1,6 +1,7 @@
 -- The walk over a window's pieces as it goes on: what is still to come. No public promise of the face cites this file.
 use Rattle.std.specs.Prelude.{ℕ, ◌≡◌, List, [], Result, Ok, Err, Option as Maybe, Some, None, is_some}
 use Rattle.std.specs.Borrow.{Bor}
+use Rattle.std.specs.Iterator.{YieldsFirstBy}
 use Rattle.std.proofs.Math.Option.{none, some}
 use Rattle.lent.specs.Paper.{number}
 use Rattle.lent.specs.Table.{bytes_of}
@@ -45,3 +46,7 @@ pub record PassedBy (p : Pieces) (x : code.Piece) (q : Pieces) : Type 0 where
 abbrev pub Passed : Pieces → Maybe code.Piece → Pieces → Type 0
 Passed p (Some x) q = PassedBy p x q
 Passed p None q = Unit {0}
+
+-- what a step of the walk gives: the first piece still to come, and what is left is still to come
+abbrev pub Gives : Pieces → Maybe code.Piece → Pieces → Type 0
+Gives p r q = YieldsFirstBy told_piece ahead p r q × Passed p r q

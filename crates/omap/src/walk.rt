@@ -66,7 +66,8 @@ impl<'t> Pieces<'t> {
         };
         for place in self.next..self.last {
             let target = u32_at(table, OMAP.width * place + 4);
-            if target != 0 {
+            let mapped = target != 0;
+            if mapped {
                 let source = u32_at(table, OMAP.width * place);
                 let from = self.a.max(source);
                 let end = end_in(table, place, self.last, self.b);
@@ -104,21 +105,16 @@ impl<'t> Pieces<'t> {
 }
 
 impl Iterator for Pieces<'_> {
-    ghost use Rattle.omap.specs.Ahead.{ahead, Passed};
-    ghost use Rattle.omap.specs.Told.{told_piece};
-    ghost use Rattle.std.specs.Iterator.{YieldsFirstBy, MakesProgress, item_count};
+    ghost use Rattle.omap.specs.Ahead.{ahead, Gives};
+    ghost use Rattle.std.specs.Iterator.{item_count};
 
     type Item = Piece;
 
-    ghost next_gives = { YieldsFirstBy told_piece ahead };
+    ghost next_gives = { Gives };
 
     ghost remaining = { item_count ahead };
 
-    fn next(&mut self) -> Option<Piece>
-        ensures steps { YieldsFirstBy told_piece ahead self.old result self.new }
-        ensures goes { MakesProgress (λ _. Unit {0}) (item_count ahead) self.old result self.new }
-        ensures passed { Passed self.old result self.new }
-    {
+    fn next(&mut self) -> Option<Piece> {
         let found = self.first()?;
         self.next = found.after;
         Some(found.piece)

@@ -13,7 +13,8 @@ use Rattle.lent.specs.Room.{Written, counted, refused_for, room_for, unless_faul
 use Rattle.lent.specs.Words.{put, ascii}
 use borrow.Author.Tests.{le-leb}
 use Rattle.lent.proofs.Place.{length-listed}
-use Rattle.omap.specs.Records.{Entry, entry_at, records}
+use Rattle.omap.specs.Records.{entry_at, records}
+use Rattle.omap.specs.declared.lookups.Entry.{Entry}
 use Rattle.omap.specs.Window.{next_of, piece_of, pieces, window_pieces}
 use Rattle.omap.specs.declared.walk.Piece.{Piece}
 use Rattle.omap.specs.Output.{beside_start, flat, window_fault}

@@ -1,7 +1,8 @@
 use native.Mathlib.Omega.{arith}
+use lib.ListN.{length-set}
 use Rattle.omap.specs.Ahead.{ahead}
 use Rattle.omap.specs.Told.{told_piece}
-use Rattle.omap.proofs.Filling.{filling-first, filling-last, filling-more, shown}
+use Rattle.omap.proofs.Filling.{filling-first, filling-last, filling-more, shown, room-here}
 use Rattle.omap.proofs.fitting.Fitting.fill.Goals as goal
 
 pub loop-i-init : goal.loop-i-init
@@ -10,18 +11,32 @@ loop-i-init c =
     rw (c.into_iter-i-iterator.ensures.into_iter_gives, c.enumerate-i-items.ensures.source, c.enumerate-i-items.ensures.count)
     (filling-first (ahead w.pieces) c.args.out.now w.count w.fitting w.counted c.requires)
 
+pub bounds-out-i : goal.bounds-out-i
+bounds-out-i c =
+    let n = c.loop-i.i-iterator in
+    let here = room-here (ahead c.args.self.pieces) (ahead n.iter) c.args.out.now c.loop-i.out n.count c.loop-i.invariant
+    (told_piece c.in-Some.piece) (ahead c.next.new.self.iter) c.in-Some.ensures.steps.0.0 in
+    omega (arith, here, c.in-Some.ensures.steps.1)
+
+pub bounds-out-i-in-loop-i : goal.bounds-out-i-in-loop-i
+bounds-out-i-in-loop-i c =
+    let n = c.loop-i.i-iterator in
+    let here = room-here (ahead c.args.self.pieces) (ahead n.iter) c.args.out.now c.loop-i.out n.count c.loop-i.invariant
+    (told_piece c.in-Some.piece) (ahead c.next.new.self.iter) c.in-Some.ensures.steps.0.0 in
+    simp length-set (omega (arith, here, c.in-Some.ensures.steps.1))
+
 pub overflow_cast-out : goal.overflow_cast-out
 overflow_cast-out c =
     let n = c.loop-i.i-iterator in
     let here = shown (ahead c.args.self.pieces) (ahead n.iter) c.args.out.now c.loop-i.out n.count c.loop-i.invariant
-    (told_piece c.in-Some.piece) (ahead c.next.new.self.iter) c.in-Some.ensures.steps.0 in
+    (told_piece c.in-Some.piece) (ahead c.next.new.self.iter) c.in-Some.ensures.steps.0.0 in
     omega (arith, here.0)
 
 pub overflow_cast-out-in-loop-i : goal.overflow_cast-out-in-loop-i
 overflow_cast-out-in-loop-i c =
     let n = c.loop-i.i-iterator in
     let here = shown (ahead c.args.self.pieces) (ahead n.iter) c.args.out.now c.loop-i.out n.count c.loop-i.invariant
-    (told_piece c.in-Some.piece) (ahead c.next.new.self.iter) c.in-Some.ensures.steps.0 in
+    (told_piece c.in-Some.piece) (ahead c.next.new.self.iter) c.in-Some.ensures.steps.0.0 in
     omega (arith, here.1, c.beside_start.ensures)
 
 pub loop-i-preserved : goal.loop-i-preserved
@@ -30,10 +45,10 @@ loop-i-preserved c =
     let steps = c.in-Some.ensures.steps in
     rw (c.beside_start.ensures, steps.1, steps.2)
     (filling-more (ahead c.args.self.pieces) (ahead n.iter) c.args.out.now c.loop-i.out n.count c.loop-i.invariant
-    (told_piece c.in-Some.piece) (ahead c.next.new.self.iter) steps.0)
+    (told_piece c.in-Some.piece) (ahead c.next.new.self.iter) steps.0.0)
 
 pub returns : goal.returns
 returns c =
     let n = c.loop-i.i-iterator in
     filling-last (ahead c.args.self.pieces) (ahead n.iter) c.args.out.now c.loop-i.out n.count c.loop-i.invariant
-    c.in-None.ensures.steps.0.0
+    c.in-None.ensures.steps.0.0.0

@@ -16,7 +16,7 @@ returns-then-not-fits c =
     let p = c.loop-piece.piece-iterator in
     let begun = c.in_ok-pieces.ensures in
     let large = counting-not (ahead c.in_ok-pieces.pieces) (ahead p) c.loop-piece.count c.loop-piece.invariant
-    (told_piece c.in-Some.piece) (ahead c.next.new.self) c.in-Some.ensures.steps (sym c.fits.ensures ∙ c.if-not-fits.true) in
+    (told_piece c.in-Some.piece) (ahead c.next.new.self) c.in-Some.ensures.steps.0 (sym c.fits.ensures ∙ c.if-not-fits.true) in
     window-large (is_some a.table) (bytes_of a.table) a.a a.b begun.0 (ap all_fit begun.1.all ∙ large)
 
 pub overflow_add-count : goal.overflow_add-count
@@ -27,20 +27,20 @@ overflow_add-count c =
       arith,
       counted-few (is_some a.table) (bytes_of a.table) a.a a.b begun.0,
       ap length begun.1.all,
-      ap length c.in-Some.ensures.steps,
+      ap length c.in-Some.ensures.steps.0,
       c.loop-piece.invariant.number,
     )
 
 pub loop-piece-preserved : goal.loop-piece-preserved
 loop-piece-preserved c =
     counting_more (ahead c.in_ok-pieces.pieces) (ahead c.loop-piece.piece-iterator) c.loop-piece.count
-    c.loop-piece.invariant (told_piece c.in-Some.piece) (ahead c.next.new.self) c.in-Some.ensures.steps
+    c.loop-piece.invariant (told_piece c.in-Some.piece) (ahead c.next.new.self) c.in-Some.ensures.steps.0
     (sym c.fits.ensures ∙ c.if-not-fits.false)
 
 pub invariant_of-result : goal.invariant_of-result
 invariant_of-result c =
     let all = counting-last (ahead c.in_ok-pieces.pieces) (ahead c.loop-piece.piece-iterator) c.loop-piece.count
-    c.loop-piece.invariant c.in-None.ensures.steps.0 in
+    c.loop-piece.invariant c.in-None.ensures.steps.0.0 in
     record { fitting = all.0; counted = all.1 }
 
 pub returns : goal.returns
@@ -48,5 +48,5 @@ returns c =
     let a = c.args in
     let begun = c.in_ok-pieces.ensures in
     let all = counting-last (ahead c.in_ok-pieces.pieces) (ahead c.loop-piece.piece-iterator) c.loop-piece.count
-    c.loop-piece.invariant c.in-None.ensures.steps.0 in
+    c.loop-piece.invariant c.in-None.ensures.steps.0.0 in
     (window-good (is_some a.table) (bytes_of a.table) a.a a.b begun.0 (ap all_fit begun.1.all ∙ all.0), begun.1)

@@ -1,10 +1,6 @@
-use lib.ListN.{length}
 use Rattle.omap.specs.Ahead.{ahead}
 use Rattle.omap.proofs.Counting.{Counting}
 use Rattle.omap.proofs.fitting.Fitting.of.Given as goal
 
 abbrev pub invariant-loop-piece : goal.invariant-loop-piece
 invariant-loop-piece l = Counting (ahead l.pieces) (ahead l.piece-iterator) l.count
-
-abbrev pub decreases-loop-piece : goal.decreases-loop-piece
-decreases-loop-piece l = length (ahead l.piece-iterator)

@@ -3,7 +3,7 @@ use lib.ListN.{length}
 use mathlib.Core.Path.{ap, ◌∙◌}
 use native.Mathlib.Omega.{arith}
 use Rattle.omap.proofs.Walking.{none_after, walk-zero, walk-empty, walk-found}
-use Rattle.omap.proofs.walk.Pieces.first.Goals.{then-target-ne0+else-from-end, else-target-ne0}
+use Rattle.omap.proofs.walk.Pieces.first.Goals.{then-mapped+else-from-end, else-mapped}
 use Rattle.omap.proofs.walk.Pieces.first.Goals as goal
 
 pub returns-then-from-end : goal.returns-then-from-end
@@ -15,7 +15,7 @@ returns-then-from-end c =
     rw (c.in-Some.is, c.u32_at-source.ensures, c.u32_at-target.ensures) (walk-found s p.a p.b j
     (omega (arith, until.within)) p.next c.loop-place.invariant.1 c.max-from.result c.end_in-end.result
     (c.max-from.ensures ∙ ap (max p.a) c.u32_at-source.ensures) c.end_in-end.ensures (omega arith)
-    (λ z. c.if-target-ne0.true (omega arith)) c.loop-place.invariant.0)
+    (λ z. c.if-mapped.true (omega arith)) c.loop-place.invariant.0)
 
 pub loop-place-preserved : goal.loop-place-preserved
 loop-place-preserved c =
@@ -26,11 +26,11 @@ loop-place-preserved c =
     let here : j < length s / 8 = omega (arith, until.within) in
     let same = c.loop-place.invariant.1 in (
       omega arith,
-      elim c.if-target-ne0.branch [
-        | then-target-ne0+else-from-end w ↦
+      elim c.if-mapped.branch [
+        | then-mapped+else-from-end w ↦
             walk-empty s p.a p.b j here p.next same w.max-from.result w.end_in-end.result
             (w.max-from.ensures ∙ ap (max p.a) w.u32_at-source.ensures) w.end_in-end.ensures (omega arith)
-        | else-target-ne0 w ↦ walk-zero s p.a p.b j here p.next same (omega arith)
+        | else-mapped w ↦ walk-zero s p.a p.b j here p.next same (omega arith)
       ],
     )
 

@@ -8,10 +8,17 @@ use mathlib.Core.List.{List, [], ◌∷◌}
 use mathlib.Core.Option.{Option, none, some}
 use Rattle.lent.specs.Words.{or_else, put}
 use Rattle.lent.specs.Order.{rising, keys}
-use Rattle.omap.specs.Records.{Entry, rest}
+use Rattle.omap.specs.Records.{rest}
+use Rattle.omap.specs.declared.lookups.Entry.{Entry}
 use Rattle.omap.specs.Window.{next_of, pieces}
 use Rattle.omap.specs.Walk.{Found}
-use Rattle.omap.specs.declared.walk.Piece.{Piece}
+use Rattle.std.specs.Prelude.{Some, is_some}
+use Rattle.lent.specs.Table.{bytes_of}
+use Rattle.omap.specs.Ahead.{ahead, Gives}
+use Rattle.omap.specs.Told.{told_piece}
+use Rattle.omap.specs.declared.piece.Piece as code
+use Rattle.omap.specs.declared.walk.Pieces.{Pieces}
+use Rattle.omap.specs.Window.{Piece}
 use Rattle.omap.proofs.Pieces.{piece-empty}
 use Rattle.clash.specs.Clash.{Pair}
 use Rattle.clash.specs.Shared.{first_shared, from_piece, clash_of}
@@ -44,3 +51,30 @@ module _ (s : List ℕ) (a b i : ℕ) (p : Piece) (n : ℕ) (f : Found true s a 
       = sym (m ∙ ap (λ (l : List Piece). first_shared l p.to p.size)
       (sym (past-start s a b n p (omega arith) r f.owned))) in
       rw (f.first, q)
+
+-- the same of a walk over a table that is present, which gives the piece x
+module _ (w later : Pieces) (x : code.Piece) (g : Gives w (Some x) later) (present : is_some w.table ≡ true)
+    (o : Option Pair)
+    (m : o ≡ first_shared (pieces 0 later.b (rest (bytes_of later.table) later.next)) x.to x.size) where
+  abbrev s : List ℕ
+  s = bytes_of w.table
+
+  abbrev p : Piece
+  p = told_piece x
+
+  found : Found true s w.a w.b w.next p later.next
+  found = rw present at g.1.found
+
+  searched : o ≡ first_shared (pieces 0 w.b (rest s later.next)) p.to p.size
+  searched = rw (g.1.of, g.1.end) at m
+
+  pub still-present : is_some later.table ≡ true
+  still-present = rw g.1.of present
+
+  pub inside-piece : (t y : ℕ) → o ≡ some (record { first = t; second = y }) → (x.to ≤ t) × (t < x.to + x.size)
+  inside-piece = shared-inside s w.a w.b w.next p later.next found o searched
+
+  pub pair-given : clash_of (ahead w) ≡ or_else (from_piece p o) (clash_of (ahead later))
+  pair-given =
+      let order : rising (keys 8 s) ≡ true = w.in_order in
+      rw (g.1.of, g.1.start, g.1.end, present) (pair-from s w.a w.b w.next p later.next found o searched order)

@@ -1,0 +1,71 @@
+use Prim.Native.Nat.{ℕ, ◌+◌, ◌-◌}
+use mathlib.Core.Path.{◌≡◌, ap, ◌∙◌}
+use mathlib.Core.List.{List}
+use native.Mathlib.Omega.{arith}
+use Rattle.omap.specs.Records.{rest}
+use Rattle.omap.specs.Window.{Piece, pieces}
+use Rattle.clash.specs.Shared.{first_shared}
+use Rattle.clash.proofs.Later.{searching-first, searching-more, searching-found, searching-some}
+use Rattle.clash.proofs.Later.{searching-none, pass-high}
+use Rattle.clash.proofs.shared.first_shared.Goals.{then-target-best+else-best-from, else-target-best}
+use Rattle.clash.proofs.shared.first_shared.Goals as goal
+
+whole : (l : List Piece) (from size : ℕ) → first_shared l from (from + size - from) ≡ first_shared l from size
+whole l from size = let e : from + size - from ≡ size = omega arith in ap (first_shared l from) e
+
+pub loop-i-init : goal.loop-i-init
+loop-i-init c =
+    let a = c.args in
+    searching-first c.bytes_or_none-table.result.now a.window.b a.piece.to (a.piece.to + a.piece.size) a.window.next
+    (omega (arith, a.piece.some_of_it))
+
+pub returns-then-best-from : goal.returns-then-best-from
+returns-then-best-from c =
+    let a = c.args in
+    let s = c.bytes_or_none-table.result.now in
+    let e : c.better-best.result.target ≡ a.piece.to = omega (arith, c.better-best.ensures.low) in
+    rw (← c.bytes_or_none-table.ensures, e) (
+    searching-found s a.window.b a.piece.to (a.piece.to + a.piece.size) a.window.next c.loop-i.i c.loop-i.best
+    c.loop-i.invariant c.better-best.result c.better-best.ensures (omega (arith, a.piece.some_of_it)) (omega arith)
+    ∙ whole (pieces 0 a.window.b (rest s a.window.next)) a.piece.to a.piece.size)
+
+-- a record whose target is not below the best adds nothing
+pub loop-i-preserved : goal.loop-i-preserved
+loop-i-preserved c =
+    let a = c.args in
+    let s = c.bytes_or_none-table.result.now in
+    let until = rw (← c.bytes_or_none-table.ensures) at a.window.until in
+    let order = rw (← c.bytes_or_none-table.ensures) at a.window.in_order in
+    let more = searching-more s a.window.b a.piece.to (a.piece.to + a.piece.size) a.window.next c.loop-i.i c.loop-i.best
+    c.loop-i.invariant in
+    elim c.if-target-best.branch [
+      | then-target-best+else-best-from w ↦
+          rw w.best-is (more w.better-best.result w.better-best.ensures (omega arith))
+      | else-target-best w ↦
+          let high = pass-high s a.window.b a.window.last until order c.type_inv.table c.loop-i.i (omega arith) a.piece.to
+          c.loop-i.best c.loop-i.invariant.low (omega (arith, c.u32_at-target.ensures, c.loop-i.invariant.low))
+          (omega (arith, c.u32_at-target.ensures)) in
+          rw w.best-is (more c.loop-i.best high c.loop-i.invariant.low)
+    ]
+
+pub returns-then-best-end : goal.returns-then-best-end
+returns-then-best-end c =
+    let a = c.args in
+    let s = c.bytes_or_none-table.result.now in
+    let until = rw (← c.bytes_or_none-table.ensures) at a.window.until in
+    let order = rw (← c.bytes_or_none-table.ensures) at a.window.in_order in
+    rw (← c.bytes_or_none-table.ensures) (
+    searching-some s a.window.b a.piece.to (a.piece.to + a.piece.size) a.window.next c.loop-i.i c.loop-i.best
+    c.loop-i.invariant a.window.last until order (omega arith) (omega arith)
+    ∙ whole (pieces 0 a.window.b (rest s a.window.next)) a.piece.to a.piece.size)
+
+pub returns-else-best-end : goal.returns-else-best-end
+returns-else-best-end c =
+    let a = c.args in
+    let s = c.bytes_or_none-table.result.now in
+    let until = rw (← c.bytes_or_none-table.ensures) at a.window.until in
+    let order = rw (← c.bytes_or_none-table.ensures) at a.window.in_order in
+    rw (← c.bytes_or_none-table.ensures) (
+    searching-none s a.window.b a.piece.to (a.piece.to + a.piece.size) a.window.next c.loop-i.i c.loop-i.best
+    c.loop-i.invariant a.window.last until order (omega arith) (omega arith)
+    ∙ whole (pieces 0 a.window.b (rest s a.window.next)) a.piece.to a.piece.size)
