@@ -46,7 +46,7 @@ fn span_at(file: &[u8], at: usize) -> Option<Span>
     if span == ABSENT { None } else { Some(span) }
 }
 
-// The spans of a trailer that begins at `at`.
+// The spans of a trailer that begins at `at`. Six lines: a loop over the fields would need their names a second time.
 fn spans_at(file: &[u8], at: usize) -> Parts<Option<Span>>
     requires { at + 56 ≤ length file.now }
     ensures { result ≡ spans_at file.now at }

@@ -39,7 +39,8 @@ fn whole_length(parts: Parts<Option<&[u8]>>) -> usize
     length
 }
 
-// The present parts, one after the other; where the last of them ends.
+// The present parts, one after the other; where the last of them ends. The output and a place in it stay two arguments
+// below, as they are in lent: a struct of both would only be taken apart again for lent's functions.
 fn put_parts(parts: Parts<Option<&[u8]>>, out: &mut [u8]) -> usize
     requires { length (joined (in_order (parts_of parts))) ≤ length out.old }
     ensures { Wrote (joined (in_order (parts_of parts.entry))) out.old 0 result out.new }
