@@ -10,13 +10,12 @@ use lib.Seq.{take-append_seam, drop-append_seam}
 use Rattle.lent.specs.Paper.{value}
 use Rattle.lent.specs.Room.{counted}
 use Rattle.lent.proofs.Field.{Bytes}
-use Rattle.bundle.specs.declared.Span.TheVariants.{Absent}
-use Rattle.bundle.specs.declared.Spans.{Spans}
-use Rattle.bundle.specs.Layout.{Parts, joined, spans_from, trailer, bundle_of}
+use Rattle.std.specs.Prelude.{None}
+use Rattle.bundle.specs.Layout.{Parts, Spans, joined, spans_from, trailer, bundle_of}
 use Rattle.bundle.specs.Reading.{spans_at, span_list, touching, trailer_at}
 use Rattle.bundle.specs.Reading.{read_fault, read_spec, parts_read}
 use Rattle.bundle.specs.Writing.{write_spec, write_out}
-use Rattle.bundle.proofs.Lengths.{length-bundle}
+use Rattle.bundle.proofs.Lengths.{length_bundle}
 use Rattle.bundle.proofs.Whole.{good, was-told, was_read, is-bundle, bundle-read, was-written}
 
 -- A file, which is bytes, that is read with certain parts is their bundle: one set of parts has one bundle, byte for
@@ -64,6 +63,6 @@ no_part = record {
 }
 
 -- With no part present the bundle is the trailer of six absent parts, and has 56 bytes.
-pub none-is-the-trailer : (bundle_of no_part ≡ trailer (replicate 6 Absent)) × (length (bundle_of no_part) ≡ 56)
+pub none-is-the-trailer : (bundle_of no_part ≡ trailer (replicate 6 None)) × (length (bundle_of no_part) ≡ 56)
 unfolding bundle_of joined spans_from
-none-is-the-trailer = (refl, length-bundle no_part)
+none-is-the-trailer = (refl, length_bundle no_part)

@@ -2,51 +2,54 @@
 -- Assumes nothing.
 use mathlib.Core.Path.{◌≡◌, refl, sym, ◌∙◌}
 use Prim.Native.Nat.{ℕ}
-use mathlib.Core.Bool.{cond}
 use mathlib.Core.List.{List}
 use lib.ListN.{length}
-use lib.Dec.{eqb}
-use Rattle.lent.specs.Paper.{Told, value, nothing, refused}
-use Rattle.lent.specs.Room.{Written, counted, refused_as, refused_for}
-use Rattle.lent.proofs.Answers.{one_answer}
-use Rattle.bundle.specs.Layout.{Parts}
-use Rattle.bundle.specs.Reading.{told_opened, read_spec}
-use Rattle.bundle.specs.Writing.{told_packed, write_spec, write_out}
-use Rattle.bundle.specs.declared.Spans.{Spans}
-use Rattle.bundle.specs.declared.reader.Opened.{Opened}
-use Rattle.bundle.specs.declared.reader.Opened.TheVariants as opened
-use Rattle.bundle.specs.declared.writer.Packed.{Packed}
-use Rattle.bundle.specs.declared.writer.Packed.TheVariants as packed
+use Rattle.std.specs.Prelude.{Result, Ok, Err}
+use Rattle.lent.specs.Paper.{told_value}
+use Rattle.lent.proofs.Determined.{one_value}
+use Rattle.bundle.specs.Layout.{Parts, Spans}
+use Rattle.bundle.specs.Reading.{read_number, read_spec}
+use Rattle.bundle.specs.Writing.{told_written, write_spec, write_out}
+use Rattle.bundle.specs.declared.reader.ReadRefusal.{ReadRefusal}
+use Rattle.bundle.specs.declared.reader.ReadRefusal.TheVariants.{TooLarge, NotABundle, OtherVersion, Layout}
+use Rattle.bundle.specs.declared.writer.WriteRefusal.{WriteRefusal}
+use Rattle.bundle.specs.declared.writer.WriteRefusal.TheVariants as write
 
-abbrev opened_back : Told Spans → Opened
-opened_back (value x) = opened.Parts x
-opened_back nothing = opened.TooLarge
-opened_back (refused n) =
-    cond (eqb n 4) opened.TooLarge (cond (eqb n 8) opened.NotABundle (cond (eqb n 9) opened.OtherVersion opened.Layout))
+one_read_number : (v w : ReadRefusal) → read_number v ≡ read_number w → v ≡ w
+one_read_number TooLarge TooLarge e = refl
+one_read_number TooLarge NotABundle e = cc
+one_read_number TooLarge OtherVersion e = cc
+one_read_number TooLarge Layout e = cc
+one_read_number NotABundle TooLarge e = cc
+one_read_number NotABundle NotABundle e = refl
+one_read_number NotABundle OtherVersion e = cc
+one_read_number NotABundle Layout e = cc
+one_read_number OtherVersion TooLarge e = cc
+one_read_number OtherVersion NotABundle e = cc
+one_read_number OtherVersion OtherVersion e = refl
+one_read_number OtherVersion Layout e = cc
+one_read_number Layout TooLarge e = cc
+one_read_number Layout NotABundle e = cc
+one_read_number Layout OtherVersion e = cc
+one_read_number Layout Layout e = refl
 
-opened-back : (r : Opened) → opened_back (told_opened r) ≡ r
-opened-back (opened.Parts x) = refl
-opened-back opened.TooLarge = refl
-opened-back opened.NotABundle = refl
-opened-back opened.OtherVersion = refl
-opened-back opened.Layout = refl
+pub one-read : (s : List ℕ) (r q : Result Spans ReadRefusal) → told_value read_number r ≡ read_spec s
+    → told_value read_number q ≡ read_spec s → r ≡ q
+one-read s r q e f = one_value read_number one_read_number r q (e ∙ sym f)
 
-pub one-read : (s : List ℕ) (r q : Opened) → told_opened r ≡ read_spec s → told_opened q ≡ read_spec s → r ≡ q
-one-read s = one_answer told_opened opened_back opened-back (read_spec s)
-
-abbrev packed_back : Written → Packed
-packed_back (counted n) = packed.Bytes n
-packed_back (refused_as n) = packed.TooLarge
-packed_back (refused_for n k) = packed.Short k
-
-packed-back : (r : Packed) → packed_back (told_packed r) ≡ r
-packed-back (packed.Bytes n) = refl
-packed-back packed.TooLarge = refl
-packed-back (packed.Short n) = refl
+one_written : (r q : Result ℕ WriteRefusal) → told_written r ≡ told_written q → r ≡ q
+one_written (Ok m) (Ok n) e = let s : m ≡ n = cc in cc
+one_written (Ok m) (Err write.TooLarge) e = cc
+one_written (Ok m) (Err (write.Short n)) e = cc
+one_written (Err write.TooLarge) (Ok n) e = cc
+one_written (Err write.TooLarge) (Err write.TooLarge) e = refl
+one_written (Err write.TooLarge) (Err (write.Short n)) e = cc
+one_written (Err (write.Short m)) (Ok n) e = cc
+one_written (Err (write.Short m)) (Err write.TooLarge) e = cc
+one_written (Err (write.Short m)) (Err (write.Short n)) e = let s : m ≡ n = cc in cc
 
 -- what is answered, and what is left in the output
-pub one-write : (p : Parts) (out : List ℕ) (r q : Packed) (after next : List ℕ)
-    → (told_packed r ≡ write_spec p (length out)) × (after ≡ write_out p out)
-    → (told_packed q ≡ write_spec p (length out)) × (next ≡ write_out p out) → (r ≡ q) × (after ≡ next)
-one-write p out r q after next e f =
-    (one_answer told_packed packed_back packed-back (write_spec p (length out)) r q e.0 f.0, e.1 ∙ sym f.1)
+pub one-write : (p : Parts) (out : List ℕ) (r q : Result ℕ WriteRefusal) (after next : List ℕ)
+    → (told_written r ≡ write_spec p (length out)) × (after ≡ write_out p out)
+    → (told_written q ≡ write_spec p (length out)) × (next ≡ write_out p out) → (r ≡ q) × (after ≡ next)
+one-write p out r q after next e f = (one_written r q (e.0 ∙ sym f.0), e.1 ∙ sym f.1)

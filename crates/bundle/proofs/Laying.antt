@@ -12,9 +12,9 @@ use lib.Seq.{take-append_seam, drop-append_seam, length-take-le, take-add, drop-
 use lib.Dec.{eqb}
 use borrow.Author.Tests.{eq-eqb, eqb-true, le-leb}
 use Rattle.lent.proofs.Logic.{and_left, and_right}
+use Rattle.std.specs.Prelude.{Option as Maybe, Some, None}
 use Rattle.bundle.specs.declared.Span.{Span}
-use Rattle.bundle.specs.declared.Span.TheVariants.{Absent, At}
-use Rattle.bundle.specs.Layout.{joined, spans_from}
+use Rattle.bundle.specs.Layout.{joined, spans_from, span}
 use Rattle.bundle.specs.Reading.{touching, bytes_of, part_in}
 
 -- parts that are laid out from place p on touch each other
@@ -29,7 +29,7 @@ laid-touch p (some part ∷ l) =
 
 -- the part that lies between others
 between : (before part after : List ℕ)
-    → part_in (before ++ (part ++ after)) (At (length before) (length part)) ≡ some part
+    → part_in (before ++ (part ++ after)) (span (length before) (length part)) ≡ some part
 unfolding part_in bytes_of
 between before part after =
     let n : length before + length part ≤ length (before ++ (part ++ after)) =
@@ -49,40 +49,40 @@ laid-read before (none ∷ l) after =
     rw (add-zero (length before)) (ap (λ (r : List (Option (List ℕ))). none ∷ r) (laid-read before l after))
 laid-read before (some part ∷ l) after =
     let behind : List ℕ = joined l ++ after in
-    let spans : List Span = spans_from (length before + length part) l in
+    let spans : List (Maybe Span) = spans_from (length before + length part) l in
     let here : before ++ ((part ++ joined l) ++ after) ≡ before ++ (part ++ behind) =
     ap (λ (r : List ℕ). before ++ r) (append_assoc part (joined l) after) in
     let there : before ++ (part ++ behind) ≡ before ++ part ++ behind = sym (append_assoc before part behind) in
     let rest : map (part_in (before ++ (part ++ behind))) spans ≡ l =
     rw (there, ← (length-append before part)) (laid-read (before ++ part) l after) in
-    ap (λ (s : List ℕ). map (part_in s) (At (length before) (length part) ∷ spans)) here
+    ap (λ (s : List ℕ). map (part_in s) (span (length before) (length part) ∷ spans)) here
     ∙ ap (λ (x : Option (List ℕ)). x ∷ map (part_in (before ++ (part ++ behind))) spans) (between before part behind)
     ∙ ap (λ (r : List (Option (List ℕ))). some part ∷ r) rest
 
 -- spans that touch each other up to place e: their parts are what stands from p to e, and lie where the spans say
-pub touch-laid : (s : List ℕ) (e : ℕ) → e ≤ length s → (l : List Span) (p : ℕ) → touching p e l ≡ true
+pub touch-laid : (s : List ℕ) (e : ℕ) → e ≤ length s → (l : List (Maybe Span)) (p : ℕ) → touching p e l ≡ true
     → (p ≤ e) × ((spans_from p (map (part_in s) l) ≡ l) × (joined (map (part_in s) l) ≡ take (e - p) (drop p s)))
 unfolding touching spans_from joined part_in bytes_of
 touch-laid s e h [] p t =
     let q : p ≡ e = eqb-true p e t in
     let z : e - p ≡ 0 = omega arith in
     (omega arith, (refl, rw z))
-touch-laid s e h (Absent ∷ l) p t =
+touch-laid s e h (None ∷ l) p t =
     let r = touch-laid s e h l p t in
-    (r.0, (rw (add-zero p) (ap (λ (k : List Span). Absent ∷ k) r.1.0), r.1.1))
-touch-laid s e h (At start size ∷ l) p t =
-    let q : start ≡ p = eqb-true start p (and_left (eqb start p) (touching (p + size) e l) t) in
-    let r = touch-laid s e h l (p + size) (and_right (eqb start p) (touching (p + size) e l) t) in
-    let within : p + size ≤ length s = omega (arith, r.0) in
-    let inside : size ≤ length (drop p s) = omega (arith, length-drop p s) in
-    let long : length (take size (drop p s)) ≡ size = length-take-le size (drop p s) inside in
-    let split : e - p ≡ size + (e - (p + size)) = omega (arith, r.0) in
-    let both : take (size + (e - (p + size))) (drop p s)
-    ≡ take size (drop p s) ++ take (e - (p + size)) (drop (p + size) s) =
-    rw (← (drop-drop size p s)) (take-add size (e - (p + size)) (drop p s)) in (
+    (r.0, (rw (add-zero p) (ap (λ (k : List (Maybe Span)). None ∷ k) r.1.0), r.1.1))
+touch-laid s e h (Some x ∷ l) p t =
+    let q : x.start ≡ p = eqb-true x.start p (and_left (eqb x.start p) (touching (p + x.length) e l) t) in
+    let r = touch-laid s e h l (p + x.length) (and_right (eqb x.start p) (touching (p + x.length) e l) t) in
+    let within : p + x.length ≤ length s = omega (arith, r.0) in
+    let inside : x.length ≤ length (drop p s) = omega (arith, length-drop p s) in
+    let long : length (take x.length (drop p s)) ≡ x.length = length-take-le x.length (drop p s) inside in
+    let split : e - p ≡ x.length + (e - (p + x.length)) = omega (arith, r.0) in
+    let both : take (x.length + (e - (p + x.length))) (drop p s)
+    ≡ take x.length (drop p s) ++ take (e - (p + x.length)) (drop (p + x.length) s) =
+    rw (← (drop-drop x.length p s)) (take-add x.length (e - (p + x.length)) (drop p s)) in (
       omega (arith, r.0),
-      rw (q, le-leb (p + size) (length s) within, long) (
-        ap (λ (k : List Span). At p size ∷ k) r.1.0,
-        rw (split) (ap (λ (k : List ℕ). take size (drop p s) ++ k) r.1.1 ∙ sym both),
+      rw (q, le-leb (p + x.length) (length s) within, long) (
+        ap (λ (k : List (Maybe Span)). span p x.length ∷ k) r.1.0,
+        rw (split) (ap (λ (k : List ℕ). take x.length (drop p s) ++ k) r.1.1 ∙ sym both),
       ),
     )

@@ -1,6 +1,6 @@
 pub mod Lengths
 pub mod Touching
-pub mod SpanBytes
+pub mod Lent
 pub mod Readings
 pub mod Writings
 pub mod Laying

@@ -16,9 +16,9 @@ use Rattle.lent.specs.Table.{listed}
 use Rattle.lent.proofs.Encoded.{length-le, le-after, le_read, le-written}
 use Rattle.lent.proofs.Field.{Bytes}
 use Rattle.lent.proofs.Logic.{and_left, and_right}
+use Rattle.std.specs.Prelude.{Option as Maybe, None}
 use Rattle.bundle.specs.declared.Span.{Span}
-use Rattle.bundle.specs.declared.Span.TheVariants.{Absent, At}
-use Rattle.bundle.specs.Layout.{joined, spans_from, fields, all_fields}
+use Rattle.bundle.specs.Layout.{joined, spans_from, fields, all_fields, span}
 use Rattle.bundle.specs.Reading.{span_of, span_at}
 use Rattle.bundle.proofs.Lengths.{length_fields}
 
@@ -52,12 +52,12 @@ module _ (before : List ℕ) (m n : ℕ) (after : List ℕ) (h : m < 4294967296)
   pub pair_read : span_at whole (length before) ≡ span_of m n
   pair_read = rw (first_read, second-read)
 
-pub absent-read : (before after : List ℕ) → span_at (before ++ (fields Absent ++ after)) (length before) ≡ Absent
+pub absent-read : (before after : List ℕ) → span_at (before ++ (fields None ++ after)) (length before) ≡ None
 unfolding fields span_of
 absent-read before after = pair_read before 4294967295 4294967295 after (omega arith) (omega arith)
 
 pub at_read : (before after : List ℕ) (start size : ℕ) → start < 4294967295 → size < 4294967296
-    → span_at (before ++ (fields (At start size) ++ after)) (length before) ≡ At start size
+    → span_at (before ++ (fields (span start size) ++ after)) (length before) ≡ span start size
 unfolding fields span_of
 at_read before after start size h g =
     pair_read before start size after (omega arith) g ∙ rw (ne_eqb start 4294967295 (λ e. omega arith))
@@ -69,11 +69,11 @@ listed_next f g e i zero = refl
 listed_next f g e i (suc n) = rw (e i, listed_next f g e (suc i) n)
 
 -- the spans of a trailer that begins behind other bytes
-abbrev pub spans_behind : List ℕ → List ℕ → ℕ → List Span
+abbrev pub spans_behind : List ℕ → List ℕ → ℕ → List (Maybe Span)
 spans_behind before l n = listed (λ (k : ℕ). span_at (before ++ l) (length before + 8 * k)) 0 n
 
 -- the spans after the first lie as they would behind the first one's fields
-span_moved : (before : List ℕ) (x : Span) (l after : List ℕ) (k : ℕ)
+span_moved : (before : List ℕ) (x : Maybe Span) (l after : List ℕ) (k : ℕ)
     → span_at (before ++ (fields x ++ l ++ after)) (length before + 8 * suc k)
     ≡ span_at (before ++ fields x ++ (l ++ after)) (length (before ++ fields x) + 8 * k)
 span_moved before x l after k =
@@ -83,7 +83,7 @@ span_moved before x l after k =
     omega (arith, length-append before (fields x), length_fields x) in
     rw (append_assoc (fields x) l after, moved, place)
 
-one_span : (before : List ℕ) (x : Span) (l after : List ℕ) (n : ℕ)
+one_span : (before : List ℕ) (x : Maybe Span) (l after : List ℕ) (n : ℕ)
     → span_at (before ++ (fields x ++ (l ++ after))) (length before) ≡ x
     → spans_behind before (fields x ++ l ++ after) (suc n) ≡ x ∷ spans_behind (before ++ fields x) (l ++ after) n
 unfolding listed
@@ -91,7 +91,7 @@ one_span before x l after n e =
     let here : span_at (before ++ (fields x ++ l ++ after)) (length before) ≡ x =
     rw (append_assoc (fields x) l after) e in
     rw (add-zero (length before), here)
-    (ap (λ (k : List Span). x ∷ k)
+    (ap (λ (k : List (Maybe Span)). x ∷ k)
     (listed_next (λ (k : ℕ). span_at (before ++ (fields x ++ l ++ after)) (length before + 8 * k))
     (λ (k : ℕ). span_at (before ++ fields x ++ (l ++ after)) (length (before ++ fields x) + 8 * k))
     (span_moved before x l after) 0 n))
@@ -103,16 +103,16 @@ pub spans-read : (before : List ℕ) (p : ℕ) (l : List (Option (List ℕ))) (a
 unfolding joined spans_from all_fields listed
 spans-read before p [] after h = refl
 spans-read before p (none ∷ l) after h =
-    one_span before Absent (all_fields (spans_from (p + 0) l)) after (length l)
+    one_span before None (all_fields (spans_from (p + 0) l)) after (length l)
     (absent-read before (all_fields (spans_from (p + 0) l) ++ after))
-    ∙ ap (λ (k : List Span). Absent ∷ k) (spans-read (before ++ fields Absent) (p + 0) l after (omega (arith, h)))
+    ∙ ap (λ (k : List (Maybe Span)). None ∷ k) (spans-read (before ++ fields None) (p + 0) l after (omega (arith, h)))
 spans-read before p (some part ∷ l) after h =
-    let x : Span = At p (length part) in
-    let rest : List Span = spans_from (p + length part) l in
+    let x : Maybe Span = span p (length part) in
+    let rest : List (Maybe Span) = spans_from (p + length part) l in
     let n = length-append part (joined l) in
     one_span before x (all_fields rest) after (length l)
     (at_read before (all_fields rest ++ after) p (length part) (omega arith) (omega (arith, n)))
-    ∙ ap (λ (k : List Span). x ∷ k) (spans-read (before ++ fields x) (p + length part) l after (omega (arith, n)))
+    ∙ ap (λ (k : List (Maybe Span)). x ∷ k) (spans-read (before ++ fields x) (p + length part) l after (omega (arith, n)))
 
 -- the fields of a span, whether it is absent or not
 fields-of : (m n : ℕ) → fields (span_of m n) ≡ le_bytes 4 m ++ le_bytes 4 n
@@ -120,7 +120,7 @@ unfolding span_of fields
 fields-of m n = go (eqb m 4294967295 && eqb n 4294967295) refl
   where
     go : (t : Bool) → (eqb m 4294967295 && eqb n 4294967295) ≡ t
-        → fields (cond t Absent (At m n)) ≡ le_bytes 4 m ++ le_bytes 4 n
+        → fields (cond t None (span m n)) ≡ le_bytes 4 m ++ le_bytes 4 n
     go true e =
         let a : m ≡ 4294967295 = eqb-true m 4294967295 (and_left (eqb m 4294967295) (eqb n 4294967295) e) in
         let b : n ≡ 4294967295 = eqb-true n 4294967295 (and_right (eqb m 4294967295) (eqb n 4294967295) e) in

@@ -17,14 +17,14 @@ use Rattle.lent.specs.Room.{Written, counted, refused_as, refused_for, room_for,
 use Rattle.lent.proofs.Encoded.{le-after, le_read, le-written}
 use Rattle.lent.proofs.Field.{Bytes}
 use Rattle.lent.proofs.Logic.{and_left, and_right}
+use Rattle.std.specs.Prelude.{Option as Maybe}
 use Rattle.bundle.specs.declared.Span.{Span}
-use Rattle.bundle.specs.declared.Spans.{Spans}
-use Rattle.bundle.specs.Layout.{Parts, in_order, joined, spans_from, all_fields, mark, trailer, bundle_of}
+use Rattle.bundle.specs.Layout.{Parts, Spans, in_order, joined, spans_from, all_fields, mark, trailer, bundle_of}
 use Rattle.bundle.specs.Reading.{spans_at, span_list, touching, same, trailer_at, length_fault, mark_fault}
 use Rattle.bundle.specs.Reading.{version_fault, layout_fault, read_fault, part_in, parts_in, parts_read}
 use Rattle.bundle.specs.Writing.{write_spec}
 use Rattle.bundle.proofs.Laying.{laid-touch, laid-read, touch-laid}
-use Rattle.bundle.proofs.Lengths.{length-all-fields, length-spans, length-bundle}
+use Rattle.bundle.proofs.Lengths.{length-all-fields, length-spans, length_bundle}
 use Rattle.bundle.proofs.Readings.{read-parts}
 use Rattle.bundle.proofs.Touching.{all-parts}
 use Rattle.bundle.proofs.Trailing.{spans-read, fields-are}
@@ -83,7 +83,7 @@ module _ (s : List ℕ) (bytes : Bytes s) (g : Good s) where
   abbrev at : ℕ
   at = trailer_at s
 
-  abbrev spans : List Span
+  abbrev spans : List (Maybe Span)
   spans = span_list (spans_at s at)
 
   the_end : drop (at + 48) s ≡ le_bytes 4 1 ++ mark
@@ -121,14 +121,14 @@ module _ (p : Parts) (fits : length (bundle_of p) ≤ 4294967295) where
   abbrev before : List ℕ
   before = joined (in_order p)
 
-  abbrev laid : List Span
+  abbrev laid : List (Maybe Span)
   laid = spans_from 0 (in_order p)
 
   abbrev version : List ℕ
   version = le_bytes 4 1 ++ mark
 
   place : trailer_at (bundle_of p) ≡ length before
-  place = omega (arith, length-bundle p)
+  place = omega (arith, length_bundle p)
 
   long : length (all_fields laid) ≡ 48
   long = omega (arith, length-all-fields laid, length-spans 0 (in_order p))
@@ -137,7 +137,7 @@ module _ (p : Parts) (fits : length (bundle_of p) ≤ 4294967295) where
   unfolding bundle_of same le_bytes
   its-mark =
       let at : length (bundle_of p) - 4 ≡ length before + (length (all_fields laid) + 4) =
-      omega (arith, length-bundle p, long) in
+      omega (arith, length_bundle p, long) in
       rw (
         at,
         drop-append-add before (trailer laid) (length (all_fields laid) + 4),
@@ -148,7 +148,7 @@ module _ (p : Parts) (fits : length (bundle_of p) ≤ 4294967295) where
   unfolding bundle_of
   its-version =
       let at : trailer_at (bundle_of p) + 48 ≡ length before + (length (all_fields laid) + 0) =
-      omega (arith, length-bundle p, long) in
+      omega (arith, length_bundle p, long) in
       ap (le_at 4 (bundle_of p)) at
       ∙ le-after 4 before (trailer laid) (length (all_fields laid) + 0)
       ∙ le-after 4 (all_fields laid) version 0
@@ -158,7 +158,7 @@ module _ (p : Parts) (fits : length (bundle_of p) ≤ 4294967295) where
   unfolding bundle_of
   its-spans =
       all-parts (bundle_of p) (trailer_at (bundle_of p))
-      ∙ rw place (spans-read before 0 (in_order p) version (omega (arith, length-bundle p)))
+      ∙ rw place (spans-read before 0 (in_order p) version (omega (arith, length_bundle p)))
 
   its-touch : true ≡ touching 0 (trailer_at (bundle_of p)) (span_list (spans_at (bundle_of p) (trailer_at (bundle_of p))))
   its-touch = rw (its-spans, place) (sym (laid-touch 0 (in_order p)) ∙ rw (zero-add (length before)))
@@ -172,7 +172,7 @@ module _ (p : Parts) (fits : length (bundle_of p) ≤ 4294967295) where
   pub bundle-read : parts_read (bundle_of p) ≡ value p
   bundle-read =
       let read =
-      read-parts (bundle_of p) fits (omega (arith, length-bundle p)) its-mark its-version its-touch in
+      read-parts (bundle_of p) fits (omega (arith, length_bundle p)) its-mark its-version its-touch in
       ap (λ (t : Told Spans). and_then t (λ (x : Spans). value (parts_in (bundle_of p) x))) (sym read) ∙ ap value its-parts
 
 -- what the writer has passed where it wrote n bytes

@@ -1,4 +1,3 @@
 pub mod Layout
 pub mod Reading
 pub mod Writing
-pub mod Inside

@@ -1,21 +1,20 @@
 -- The reader: where the parts of a file lie, or why it is refused; and the bytes of a part.
 use Rattle.std.specs.Prelude.{ℕ, ◌+◌, ◌-◌, Bool, true, false, cond, ◌&&◌, List, [], ◌∷◌, length, take, drop, leb, eqb}
+use Rattle.std.specs.Prelude.{Option as Maybe, Some, None}
 use Rattle.std.proofs.Math.Option.{Option, none, some}
 use Rattle.lent.specs.Le.{le_at}
-use Rattle.lent.specs.Paper.{Told, value, refused, first_fault, unless, and_then}
+use Rattle.lent.specs.Paper.{Told, value, first_fault, unless, and_then}
 use Rattle.bundle.specs.declared.Span.{Span}
-use Rattle.bundle.specs.declared.Span.TheVariants.{Absent, At}
-use Rattle.bundle.specs.declared.Spans.{Spans}
-use Rattle.bundle.specs.declared.reader.Opened.{Opened}
-use Rattle.bundle.specs.declared.reader.Opened.TheVariants as opened
-use Rattle.bundle.specs.Layout.{Parts, mark}
+use Rattle.bundle.specs.declared.reader.ReadRefusal.{ReadRefusal}
+use Rattle.bundle.specs.declared.reader.ReadRefusal.TheVariants.{TooLarge, NotABundle, OtherVersion, Layout}
+use Rattle.bundle.specs.Layout.{Parts, Spans, in_order, span, mark}
 
 -- the span that a start and a length say
-unfoldable pub span_of : ℕ → ℕ → Span
-span_of start size = cond (eqb start 4294967295 && eqb size 4294967295) Absent (At start size)
+unfoldable pub span_of : ℕ → ℕ → Maybe Span
+span_of start size = cond (eqb start 4294967295 && eqb size 4294967295) None (span start size)
 
 -- the span whose fields stand at a place
-abbrev pub span_at : List ℕ → ℕ → Span
+abbrev pub span_at : List ℕ → ℕ → Maybe Span
 span_at s at = span_of (le_at 4 s at) (le_at 4 s (at + 4))
 
 -- the spans of a trailer that begins at a place
@@ -29,17 +28,14 @@ spans_at s at = record {
   new_frames = span_at s (at + 40);
 }
 
-abbrev pub span_list : Spans → List Span
-span_list x =
-    x.original_sections
-    ∷ (x.transformed_sections
-    ∷ (x.to_original ∷ (x.to_transformed ∷ (x.old_frames ∷ (x.new_frames ∷ [])))))
+abbrev pub span_list : Spans → List (Maybe Span)
+span_list = in_order
 
 -- present parts touch each other: the first begins at place p, the last ends at place e
-unfoldable pub touching : ℕ → ℕ → List Span → Bool
+unfoldable pub touching : ℕ → ℕ → List (Maybe Span) → Bool
 touching p e [] = eqb p e
-touching p e (Absent ∷ l) = touching p e l
-touching p e (At start size ∷ l) = eqb start p && touching (p + size) e l
+touching p e (None ∷ l) = touching p e l
+touching p e (Some x ∷ l) = eqb x.start p && touching (p + x.length) e l
 
 -- two lists of bytes are the same
 unfoldable pub same : List ℕ → List ℕ → Bool
@@ -76,22 +72,22 @@ read_fault s = first_fault (length_fault (length s)) (first_fault (mark_fault s)
 unfoldable pub read_spec : List ℕ → Told Spans
 read_spec s = unless (read_fault s) (value (spans_at s (trailer_at s)))
 
-abbrev pub told_opened : Opened → Told Spans
-told_opened (opened.Parts x) = value x
-told_opened opened.TooLarge = refused 4
-told_opened opened.NotABundle = refused 8
-told_opened opened.OtherVersion = refused 9
-told_opened opened.Layout = refused 10
+-- the number of each refusal
+abbrev pub read_number : ReadRefusal → ℕ
+read_number TooLarge = 4
+read_number NotABundle = 8
+read_number OtherVersion = 9
+read_number Layout = 10
 
 -- the bytes of a span; none where it is absent or reaches past the file
-unfoldable pub bytes_of : List ℕ → Span → List ℕ
-bytes_of s Absent = []
-bytes_of s (At start size) = cond (leb (start + size) (length s)) (take size (drop start s)) []
+unfoldable pub bytes_of : List ℕ → Maybe Span → List ℕ
+bytes_of s None = []
+bytes_of s (Some x) = cond (leb (x.start + x.length) (length s)) (take x.length (drop x.start s)) []
 
 -- the part that a span says
-unfoldable pub part_in : List ℕ → Span → Option (List ℕ)
-part_in s Absent = none
-part_in s (At start size) = some (bytes_of s (At start size))
+unfoldable pub part_in : List ℕ → Maybe Span → Option (List ℕ)
+part_in s None = none
+part_in s (Some x) = some (bytes_of s (Some x))
 
 abbrev pub parts_in : List ℕ → Spans → Parts
 parts_in s x = record {

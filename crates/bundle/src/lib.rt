@@ -5,33 +5,55 @@
 mod reader;
 mod writer;
 
-pub use reader::{Opened, bytes_of, read};
-pub use writer::{Packed, write};
+ghost use Rattle.std.specs.Prelude.{◌≡◌};
+ghost use Rattle.bundle.specs.Layout.{in_order};
 
-// Where a part lies.
+pub use reader::{ReadRefusal, bytes_of, read};
+pub use writer::{WriteRefusal, write};
+
+// Something of each of the six parts of a bundle: the bytes that are written, or the span that is read.
 #[derive(Clone, Copy)]
-pub enum Span {
-    Absent,
-    // Its start in the file, and its length.
-    At(u32, u32),
+pub struct Parts<T> {
+    pub original_sections: T,
+    pub transformed_sections: T,
+    pub to_original: T,
+    pub to_transformed: T,
+    pub old_frames: T,
+    pub new_frames: T,
 }
 
-// Where the six parts of a bundle lie, in the bundle's order.
-#[derive(Clone, Copy)]
-pub struct Spans {
-    pub original_sections: Span,
-    pub transformed_sections: Span,
-    pub to_original: Span,
-    pub to_transformed: Span,
-    pub old_frames: Span,
-    pub new_frames: Span,
+impl<T: Copy> Parts<T> {
+    // The six, in the bundle's order.
+    pub(crate) fn in_order(self) -> [T; 6]
+        ensures { result ≡ in_order self }
+    {
+        [
+            self.original_sections,
+            self.transformed_sections,
+            self.to_original,
+            self.to_transformed,
+            self.old_frames,
+            self.new_frames,
+        ]
+    }
+}
+
+// Where a part lies in its file.
+#[derive(Clone, Copy, Debug, PartialEq, Eq)]
+pub struct Span {
+    pub start: u32,
+    // How many bytes it has.
+    pub length: u32,
 }
 
 // The bytes of the trailer, of which each part has eight.
 pub(crate) const TRAILER: usize = 56;
 
-// Both fields of an absent part.
-pub(crate) const ABSENT: u32 = 4294967295;
+// The fields of an absent part.
+pub(crate) const ABSENT: Span = Span {
+    start: 4294967295,
+    length: 4294967295,
+};
 
 pub(crate) const VERSION: u32 = 1;
 

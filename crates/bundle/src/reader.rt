@@ -1,67 +1,57 @@
 // The reader: where the parts of a file lie, and the bytes of a part.
-ghost use Rattle.std.specs.Prelude.{◌≡◌, ◌+◌, ◌≤◌, length, drop};
-ghost use Rattle.bundle.specs.Layout.{mark};
-ghost use Rattle.bundle.specs.Reading.{span_of, span_at, spans_at, span_list, touching, same};
-ghost use Rattle.bundle.specs.Reading.{read_spec, told_opened, bytes_of};
+ghost use Rattle.std.specs.Prelude.{◌≡◌, ◌+◌, ◌≤◌, length};
+ghost use Rattle.lent.specs.Paper.{told_value};
+ghost use Rattle.bundle.specs.Layout.{in_order};
+ghost use Rattle.bundle.specs.Reading.{span_at, spans_at, touching, read_spec, read_number, bytes_of};
 
-use crate::{ABSENT, MARK, MOST, Span, Spans, TRAILER, VERSION};
+use crate::{ABSENT, MARK, MOST, Parts, Span, TRAILER, VERSION};
+use lent::{Numbered, u32_at};
 
-// What a file is read as.
-#[derive(Clone, Copy)]
-pub enum Opened {
-    Parts(Spans),
-    // Refusal 4: the file has more bytes than 32 bits count.
+// Why a file is not read.
+#[derive(Clone, Copy, Debug, PartialEq, Eq)]
+pub enum ReadRefusal {
+    // 4: it has more bytes than 32 bits count.
     TooLarge,
-    // Refusal 8: the mark is wrong, or there is no room for a trailer.
+    // 8: the mark is wrong, or there is no room for a trailer.
     NotABundle,
-    // Refusal 9.
+    // 9
     OtherVersion,
-    // Refusal 10: the parts do not begin at 0, touch each other and end at the trailer.
+    // 10: the parts do not begin at 0, touch each other and end at the trailer.
     Layout,
 }
 
-// Whether the four bytes from `at` on, the last of a file, are the mark.
-fn is_mark(file: &[u8], at: usize) -> bool
-    requires { at + 4 ≡ length file.now }
-    ensures { result ≡ same (drop at file.now) mark }
-{
-    let mut i = 0;
-    while i < 4 {
-        if file[at + i] != MARK[i] {
-            return false;
-        }
-        i += 1;
-    }
-    true
-}
+impl Numbered for ReadRefusal {
+    ghost number_of = { read_number };
 
-// The span that a start and a length say.
-fn span_of(start: u32, size: u32) -> Span
-    ensures { result ≡ span_of start size }
-{
-    if start != ABSENT {
-        return Span::At(start, size);
+    fn number(self) -> u32 {
+        match self {
+            ReadRefusal::TooLarge => 4,
+            ReadRefusal::NotABundle => 8,
+            ReadRefusal::OtherVersion => 9,
+            ReadRefusal::Layout => 10,
+        }
     }
-    if size != ABSENT {
-        return Span::At(start, size);
-    }
-    Span::Absent
 }
 
 // The span whose fields stand at `at`.
-fn span_at(file: &[u8], at: usize) -> Span
+#[tactic(auto, unfolding(crate::specs::Reading::span_of))]
+fn span_at(file: &[u8], at: usize) -> Option<Span>
     requires { at + 8 ≤ length file.now }
     ensures { result ≡ span_at file.now at }
 {
-    span_of(lent::u32_at(file, at), lent::u32_at(file, at + 4))
+    let span = Span {
+        start: u32_at(file, at),
+        length: u32_at(file, at + 4),
+    };
+    if span == ABSENT { None } else { Some(span) }
 }
 
-// The spans of a trailer that begins at `at`.
-fn spans_at(file: &[u8], at: usize) -> Spans
+// The spans of a trailer that begins at `at`. Six lines: a loop over the fields would need their names a second time.
+fn spans_at(file: &[u8], at: usize) -> Parts<Option<Span>>
     requires { at + 56 ≤ length file.now }
     ensures { result ≡ spans_at file.now at }
 {
-    Spans {
+    Parts {
         original_sections: span_at(file, at),
         transformed_sections: span_at(file, at + 8),
         to_original: span_at(file, at + 16),
@@ -71,70 +61,55 @@ fn spans_at(file: &[u8], at: usize) -> Spans
     }
 }
 
-// Whether the parts begin at 0, touch each other and end at the trailer, which begins at `at`.
-fn touch(file: &[u8], at: usize) -> bool
-    requires { at + 56 ≤ length file.now }
-    ensures { result ≡ touching 0 at (span_list (spans_at file.now at)) }
+// Whether the parts begin at 0, touch each other and end at `end`.
+fn touch(spans: Parts<Option<Span>>, end: usize) -> bool
+    ensures { result ≡ touching 0 end (in_order spans) }
 {
-    let mut place: usize = 0;
-    let mut k = 0;
-    while k < 6 {
-        let span = span_at(file, at + 8 * k);
-        match span {
-            Span::Absent => {
-                k += 1;
+    let mut place = 0;
+    for part in spans.in_order() {
+        if let Some(span) = part {
+            if span.start as usize != place {
+                return false;
             }
-            Span::At(start, size) => {
-                if start as usize == place {
-                    place += size as usize;
-                    k += 1;
-                } else {
-                    return false;
-                }
-            }
+            place += span.length as usize;
         }
     }
-    place == at
+    place == end
 }
 
 // Where the six parts of a file lie.
-pub fn read(file: &[u8]) -> Opened
-    ensures { told_opened result ≡ read_spec file.now }
+#[tactic(auto, using(crate::proofs::Readings::mark_told), unfolding(crate::specs::Reading::read_spec))]
+pub fn read(file: &[u8]) -> Result<Parts<Option<Span>>, ReadRefusal>
+    ensures { told_value read_number result ≡ read_spec file.now }
 {
-    let n = file.len();
-    if n > MOST {
-        return Opened::TooLarge;
+    if file.len() > MOST {
+        return Err(ReadRefusal::TooLarge);
     }
-    if n < TRAILER {
-        return Opened::NotABundle;
+    if file.len() < TRAILER || !file.ends_with(&MARK) {
+        return Err(ReadRefusal::NotABundle);
     }
-    if is_mark(file, n - 4) {
-        let trailer = n - TRAILER;
-        if lent::u32_at(file, trailer + 48) != VERSION {
-            return Opened::OtherVersion;
-        }
-        if touch(file, trailer) {
-            return Opened::Parts(spans_at(file, trailer));
-        }
-        return Opened::Layout;
+    let trailer = file.len() - TRAILER;
+    if u32_at(file, trailer + 48) != VERSION {
+        return Err(ReadRefusal::OtherVersion);
     }
-    Opened::NotABundle
+    let spans = spans_at(file, trailer);
+    if touch(spans, trailer) {
+        Ok(spans)
+    } else {
+        Err(ReadRefusal::Layout)
+    }
 }
 
 // The bytes of a part, in the file itself: none where it is absent, or where a span that was not read from this file
 // reaches past it.
-pub fn bytes_of(file: &[u8], span: Span) -> &[u8]
+#[tactic(auto, unfolding(crate::specs::Reading::bytes_of))]
+pub fn bytes_of(file: &[u8], span: Option<Span>) -> &[u8]
     ensures { result.now ≡ bytes_of file.now span }
 {
-    match span {
-        Span::Absent => &file[..0],
-        Span::At(start, size) => {
-            let from = start as usize;
-            let to = from + size as usize;
-            if to <= file.len() {
-                return &file[from..to];
-            }
-            &file[..0]
-        }
-    }
+    let Some(span) = span else {
+        return &[];
+    };
+    let from = span.start as usize;
+    let to = from + span.length as usize;
+    file.get(from..to).unwrap_or(&[])
 }

@@ -5,24 +5,30 @@ use mathlib.Core.Path.{◌≡◌, refl, sym, ap, ◌∙◌}
 use Prim.Native.Nat.{ℕ}
 use mathlib.Core.Bool.{Bool, true, false}
 use Rattle.std.specs.Prelude.{Result, Ok, Err, Option as Maybe, Some, None}
-use Rattle.lent.specs.Paper.{Told, number, told}
+use Rattle.lent.specs.Paper.{Told, value, nothing, refused, number, told}
 use Rattle.lent.specs.declared.refusal.Refusal.{Refusal}
+use Rattle.lent.specs.declared.refusal.Refusal.TheVariants.{Length, Count, Order}
+use Rattle.lent.proofs.Answers.{refusal}
 use Rattle.lent.proofs.Determined.{one_number, one_told}
 use Rattle.pe.specs.Flags.{told_alignment}
 use Rattle.pe.specs.Header.{told_given}
 use Rattle.pe.specs.declared.header.ImageSectionHeader.{ImageSectionHeader}
 
+abbrev given_back : Told ImageSectionHeader → Result Bool Refusal
+given_back (value h) = Ok true
+given_back nothing = Ok false
+given_back (refused n) = Err (refusal n)
+
+given-back : (g : Result Bool Refusal) (h : ImageSectionHeader) → given_back (told_given g h) ≡ g
+given-back (Ok true) h = refl
+given-back (Ok false) h = refl
+given-back (Err Length) h = refl
+given-back (Err Count) h = refl
+given-back (Err Order) h = refl
+
 -- whether there is a header, whatever stands beside it
 pub one-given : (g q : Result Bool Refusal) (h k : ImageSectionHeader) → told_given g h ≡ told_given q k → g ≡ q
-one-given (Ok true) (Ok true) h k e = refl
-one-given (Ok true) (Ok false) h k e = cc
-one-given (Ok true) (Err w) h k e = cc
-one-given (Ok false) (Ok true) h k e = cc
-one-given (Ok false) (Ok false) h k e = refl
-one-given (Ok false) (Err w) h k e = cc
-one-given (Err v) (Ok true) h k e = cc
-one-given (Err v) (Ok false) h k e = cc
-one-given (Err v) (Err w) h k e = let n : number v ≡ number w = cc in ap Err (one_number v w n)
+one-given g q h k e = sym (given-back g h) ∙ ap given_back e ∙ given-back q k
 
 -- the header
 pub one-headed : (r q : Result (Maybe ImageSectionHeader) Refusal) (t : Told ImageSectionHeader) → told number r ≡ t

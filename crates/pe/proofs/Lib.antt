@@ -1,5 +1,6 @@
 pub mod Extents
 pub mod HeaderAnswers
+pub mod Align
 pub mod Names
 pub mod Determined
 pub mod Tables

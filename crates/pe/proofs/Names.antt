@@ -1,20 +1,26 @@
 -- The name of a section is a part of the first eight bytes of its header.
 -- Assumes nothing.
-use mathlib.Core.Path.{◌≡◌, refl, sym, ap}
-use mathlib.Core.Logic.{⊎_elim}
-use Prim.Native.Nat.{ℕ, ◌+◌, ◌*◌}
+use mathlib.Core.Path.{◌≡◌, refl, sym, ap, ◌∙◌}
+use mathlib.Core.Logic.{◌⊎◌, inl, inr, ⊎_elim}
+use Prim.Native.Nat.{ℕ, zero, suc, ◌+◌, ◌-◌, ◌*◌, ◌/◌, ◌≤◌, ◌<◌}
 use native.Mathlib.Nat.{add-zero}
 use native.Mathlib.Numerals.{add-one}
-use mathlib.Core.Bool.{true, false}
+use native.Mathlib.Omega.{arith}
+use mathlib.Core.Bool.{Bool, true, false, cond}
 use mathlib.Core.List.{List, [], ◌∷◌}
-use lib.ListN.{length, take, drop}
-use lib.Dec.{eqb}
-use Rattle.lent.specs.Paper.{value}
+use mathlib.Core.Option.{Option, none, some}
+use lib.ListN.{length, take, drop, length-take}
+use lib.Seq.{take-take}
+use lib.Dec.{eqb, ltb}
+use Rattle.lent.specs.Paper.{value, nothing, unless}
+use Rattle.lent.specs.Table.{section_shape}
 use Rattle.lent.proofs.Logic.{which}
 use Rattle.pe.specs.Header.{header_at, header_spec}
 use Rattle.utf8.specs.Text.{before_zero, if_utf8}
 use Rattle.utf8.specs.Utf8.{utf8}
-use Rattle.pe.specs.Name.{name_spec}
+use Rattle.pe.specs.Name.{name_of, name_spec}
+use Rattle.pe.specs.declared.header.ImageSectionHeader.{ImageSectionHeader}
+use Rattle.pe.proofs.HeaderAnswers.{found}
 
 before-front : (l : List ℕ) → before_zero l ≡ take (length (before_zero l)) l
 unfolding before_zero
@@ -40,3 +46,49 @@ pub name-held : (s : List ℕ) (i : ℕ) → value (header_at s i) ≡ header_sp
 unfolding header_at name_spec
 name-held s i v =
     rw (add-one, ← v) (ap (λ (k : ℕ). if_utf8 (before_zero (take 8 (drop k s)))) (sym (add-zero (40 * i))))
+
+-- a header is there, or the name is empty
+there-or-empty : (o : Option ℕ) (t : Bool) (h : ImageSectionHeader)
+    → (value h ≡ unless o (cond t (value h) nothing)) ⊎ (name_of (unless o (cond t (value h) nothing)) ≡ [])
+there-or-empty none true h = inl refl
+there-or-empty none false h = inr refl
+there-or-empty (some n) t h = inr refl
+
+-- a name lies in the table, at the start of its header
+pub record Lies (s : List ℕ) (n : ℕ) : Type 0 where
+  pub numbered : 0 < length (name_spec s n) → 0 < n
+  pub inside : 0 < length (name_spec s n) → 40 * (n - 1) + length (name_spec s n) ≤ length s
+  pub part : name_spec s n ≡ take (length (name_spec s n)) (drop (40 * (n - 1)) s)
+
+lies_empty : (s : List ℕ) (n : ℕ) → name_spec s n ≡ [] → Lies s n
+lies_empty s n e =
+    let z : length (name_spec s n) ≡ 0 = ap length e in
+    record { numbered = λ h. absurd (omega arith); inside = λ h. absurd (omega arith); part = rw e }
+
+module _ (s : List ℕ) (i : ℕ) where
+  name-there : value (header_at s i) ≡ header_spec s i
+      → if_utf8 (before_zero (take 8 (drop (40 * i) s))) ≡ name_spec s (suc i)
+  name-there v = name-held s i v ∙ rw add-one
+
+  lies-there : value (header_at s i) ≡ header_spec s i → Lies s (suc i)
+  lies-there v =
+      let eight = take 8 (drop (40 * i) s) in
+      let p = if_utf8 (before_zero eight) in
+      let part = length-take (length p) eight in
+      let short : length p ≤ 8 = omega (arith, ap length (front eight), part, length-take 8 (drop (40 * i) s)) in
+      let q : p ≡ take (length p) (drop (40 * i) s) = sym (front eight) ∙ take-take (length p) 8 (drop (40 * i) s) short in
+      let one : suc i - 1 ≡ i = omega arith in
+      record {
+        numbered = λ h. omega arith;
+        inside = λ h. omega (arith, found s i v, ap length (name-there v));
+        part = rw (← (name-there v), one) q;
+      }
+
+pub lies : (s : List ℕ) (n : ℕ) → Lies s n
+unfolding name_spec header_spec
+lies s zero = lies_empty s 0 refl
+lies s (suc i) =
+    ⊎_elim
+    (λ (v : value (header_at s i) ≡ header_spec s i). lies-there s i v)
+    (λ (e : name_of (header_spec s i) ≡ []). lies_empty s (suc i) e)
+    (there-or-empty (section_shape s) (ltb i (length s / 40)) (header_at s i))

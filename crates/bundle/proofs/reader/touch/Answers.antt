@@ -1,48 +1,40 @@
 use mathlib.Core.Path.{sym, ap, ◌∙◌}
-use Prim.Native.Nat.{◌+◌}
 use native.Mathlib.Omega.{arith}
-use Rattle.bundle.specs.declared.Span.TheVariants.{Absent, At}
+use Prim.Native.Nat.{◌<◌, ◌≤◌}
+use lib.ListN.{length}
 use Rattle.bundle.specs.Reading.{touching}
-use Rattle.bundle.proofs.Touching.{parts_left, all-parts, touch-part, touch-absent, touch-here}
-use Rattle.bundle.proofs.Touching.{touch-elsewhere, touch-end}
+use Rattle.bundle.proofs.Touching.{touch-absent, touch-here, touch-elsewhere, touch-end}
 use Rattle.bundle.proofs.reader.touch.Goals as goal
+use Rattle.bundle.proofs.reader.touch.Goals.{in-Some+else-span-place, in_default}
 
-pub loop-k-init : goal.loop-k-init
-loop-k-init c =
-    let a = c.args in
-    (omega arith, (omega arith, ap (touching 0 a.at) (all-parts a.file.now a.at)))
+pub loop-part-init : goal.loop-part-init
+loop-part-init c = (omega arith, ap (touching 0 c.args.end) (sym c.in_order-part-items.ensures))
 
-pub loop-k-preserved-in-Absent : goal.loop-k-preserved-in-Absent
-loop-k-preserved-in-Absent c =
-    let a = c.args in
-    let l = c.loop-k in
-    let here = sym c.span_at-span.ensures ∙ c.in-Absent.is in
-    let part = touch-part a.file.now a.at l.place l.k (omega arith) Absent here in
-    let passed = touch-absent l.place a.at (parts_left a.file.now a.at (l.k + 1)) in
-    (omega arith, (l.invariant.1.0, l.invariant.1.1 ∙ part ∙ passed))
+pub returns-then-span-place : goal.returns-then-span-place
+returns-then-span-place c =
+    let l = c.in_order-part-items.result in
+    let i = c.loop-part.part-index in
+    let inside : i < length l = omega (arith, ap length c.in_order-part-items.ensures) in
+    sym (c.loop-part.invariant.1 ∙ touch-elsewhere c.loop-part.place c.args.end i l inside c.in-Some.span c.in-Some.is
+    c.if-span-place.true)
 
-pub loop-k-preserved : goal.loop-k-preserved
-loop-k-preserved c =
-    let a = c.args in
-    let l = c.loop-k in
-    let here = sym c.span_at-span.ensures ∙ c.in-At.is in
-    let part = touch-part a.file.now a.at l.place l.k (omega arith) (At c.in-At.start c.in-At.size) here in
-    let passed = touch-here l.place a.at (parts_left a.file.now a.at (l.k + 1)) c.in-At.start c.in-At.size (omega
-    arith) in
-    (omega arith, (omega arith, l.invariant.1.1 ∙ part ∙ passed))
-
-pub returns-else-start-place : goal.returns-else-start-place
-returns-else-start-place c =
-    let a = c.args in
-    let l = c.loop-k in
-    let here = sym c.span_at-span.ensures ∙ c.in-At.is in
-    let part = touch-part a.file.now a.at l.place l.k (omega arith) (At c.in-At.start c.in-At.size) here in
-    let stopped = touch-elsewhere l.place a.at (parts_left a.file.now a.at (l.k + 1)) c.in-At.start c.in-At.size
-    (omega arith) in
-    sym (l.invariant.1.1 ∙ part ∙ stopped)
+pub loop-part-preserved : goal.loop-part-preserved
+loop-part-preserved c =
+    let l = c.in_order-part-items.result in
+    let i = c.loop-part.part-index in
+    let p = c.loop-part.place in
+    let inside : i < length l = omega (arith, ap length c.in_order-part-items.ensures) in
+    elim c.match-part.branch [
+      | in-Some+else-span-place w ↦
+          let here = touch-here p c.args.end i l inside w.in-Some.span w.in-Some.is w.if-span-place.false in
+          (omega arith, rw w.place-is (c.loop-part.invariant.1 ∙ here))
+      | in_default w ↦
+          let here = touch-absent p c.args.end i l inside w.in_default.is in
+          (omega arith, rw w.place-is (c.loop-part.invariant.1 ∙ here))
+    ]
 
 pub returns : goal.returns
 returns c =
-    let a = c.args in
-    let l = c.loop-k in
-    sym (l.invariant.1.1 ∙ touch-end a.file.now a.at l.place l.k (omega arith))
+    let l = c.in_order-part-items.result in
+    let past : length l ≤ c.loop-part.part-index = omega (arith, ap length c.in_order-part-items.ensures) in
+    sym (c.loop-part.invariant.1 ∙ touch-end c.loop-part.place c.args.end c.loop-part.part-index l past)

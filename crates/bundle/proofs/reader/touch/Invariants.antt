@@ -1,12 +1,10 @@
 use mathlib.Core.Path.{◌≡◌}
-use Prim.Native.Nat.{◌-◌, ◌≤◌}
-use Rattle.bundle.specs.Reading.{spans_at, span_list, touching}
-use Rattle.bundle.proofs.Touching.{parts_left}
+use Prim.Native.Nat.{◌*◌, ◌≤◌}
+use lib.ListN.{drop}
+use Rattle.bundle.specs.Layout.{in_order}
+use Rattle.bundle.specs.Reading.{touching}
 use Rattle.bundle.proofs.reader.touch.Given as goal
 
-abbrev pub invariant-loop-k : goal.invariant-loop-k
-invariant-loop-k l = (l.k ≤ 6) × ((l.place ≤ 8589934592)
-    × (touching 0 l.at (span_list (spans_at l.file l.at)) ≡ touching l.place l.at (parts_left l.file l.at l.k)))
-
-abbrev pub decreases-loop-k : goal.decreases-loop-k
-decreases-loop-k l = 6 - l.k
+abbrev pub invariant-loop-part : goal.invariant-loop-part
+invariant-loop-part l = (l.place ≤ 8589934592 * l.part-index)
+    × (touching 0 l.end (in_order l.fn.spans) ≡ touching l.place l.end (drop l.part-index l.part-items))

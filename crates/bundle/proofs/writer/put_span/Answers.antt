@@ -1,12 +1,8 @@
-use Rattle.bundle.specs.Layout.{fields}
+use Rattle.lent.proofs.Wrote.{wrote-both}
+use Rattle.bundle.proofs.Lent.{fields-or}
 use Rattle.bundle.proofs.writer.put_span.Goals as goal
 
-pub returns-in-Absent : goal.returns-in-Absent
-unfolding fields
-returns-in-Absent c =
-    rw c.in-Absent.is c.put_fields.ensures
-
-pub returns-in-At : goal.returns-in-At
-unfolding fields
-returns-in-At c =
-    rw c.in-At.is c.put_fields-in-At.ensures
+pub returns-clause-wrote : goal.returns-clause-wrote
+returns-clause-wrote c =
+    let both = wrote-both c.put_u32-next.ensures.wrote c.put_u32.ensures.wrote in
+    rw (c.unwrap_or-span.ensures, fields-or c.args.span) at both
