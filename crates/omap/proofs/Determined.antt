@@ -24,7 +24,7 @@ use Rattle.omap.specs.declared.lookups.Quick.{Quick}
 use Rattle.omap.specs.declared.windows.WindowRefusal.{WindowRefusal}
 use Rattle.omap.specs.declared.windows.WindowRefusal.TheVariants as window
 use Rattle.omap.specs.declared.cursor.Cursor.{Cursor}
-use Rattle.omap.specs.declared.cursor.Range.{Range}
+use Rattle.omap.specs.declared.piece.Range.{Range}
 use Rattle.omap.specs.declared.cursor.StepRefusal.{StepRefusal}
 use Rattle.omap.specs.declared.cursor.StepRefusal.TheVariants as step
 use Rattle.omap.specs.declared.cursor.Step.{Step}

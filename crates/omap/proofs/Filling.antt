@@ -12,9 +12,9 @@ use lib.Seq.{sets}
 use Rattle.lent.specs.Room.{written_over}
 use Rattle.lent.proofs.Wrote.{front}
 use Rattle.omap.specs.Window.{Piece}
-use Rattle.omap.specs.Output.{beside_start, all_fit, flat}
+use Rattle.omap.specs.Output.{beside_start, fits, all_fit, flat}
 use Rattle.omap.proofs.Outputs.{length-flat}
-use Rattle.omap.proofs.Pieces.{fits-shown, first_fits, others-fit}
+use Rattle.omap.proofs.Pieces.{first_fits, others-fit}
 
 pub record Filling (all left : List Piece) (out₀ out : List ℕ) (n : ℕ) : Type 0 where
   pub kept : length out ≡ length out₀
@@ -37,8 +37,8 @@ module _ (all left : List Piece) (out₀ out : List ℕ) (n : ℕ) (w : Filling 
     fit-here : all_fit (p ∷ rest) ≡ true
     fit-here = rw f at w.fit
 
-    pub shown : (p.to ≤ 4294967295) × (beside_start p ≤ 4294967295)
-    shown = fits-shown p (first_fits p rest fit-here)
+    pub next-fits : fits p ≡ true
+    next-fits = first_fits p rest fit-here
 
     room-more : 2 * n + (2 + length (flat rest)) ≤ length out
     unfolding flat

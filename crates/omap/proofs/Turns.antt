@@ -21,7 +21,7 @@ use Rattle.omap.specs.Turned.{next_turn, turned_by}
 use Rattle.omap.specs.declared.cursor.Cursor.{Cursor}
 use Rattle.std.specs.Prelude.{Result, Ok, Err, Option as Maybe, Some, None}
 use Rattle.omap.specs.Refusals.{step_number}
-use Rattle.omap.specs.declared.cursor.Range.{Range}
+use Rattle.omap.specs.declared.piece.Range.{Range}
 use Rattle.omap.specs.declared.cursor.StepRefusal.{StepRefusal}
 use Rattle.omap.specs.declared.cursor.StepRefusal.TheVariants.{Early, TooLarge}
 use Rattle.omap.specs.declared.cursor.Turned.{Turned}
@@ -62,12 +62,9 @@ module _ (x : Entry) (p : ℕ) (c : Cursor) where
     turn-early e = rw (counts, lt-leb c.source c.address e)
 
     module _ (e : c.source ≤ c.address) where
-      pub turn-piece : fits t.part ≡ true → (stop beside : ℕ) → stop ≡ min x.source c.end
-          → beside ≡ beside_start t.part
-          → given t.part.to beside
-          (record { address = stop; end = c.end; source = x.source; target = x.target; place = p }) ≡ turned_by t
+      pub turn-piece : fits t.part ≡ true → given t.part.to (beside_start t.part) (pulled x p c) ≡ turned_by t
       unfolding turned_by
-      turn-piece f stop beside m q = rw (counts, le-leb c.source c.address e, f, m, q)
+      turn-piece f = rw (counts, le-leb c.source c.address e, f)
 
       pub turn-large : fits t.part ≡ false → Err TooLarge ≡ turned_by t
       unfolding turned_by

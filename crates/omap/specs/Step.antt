@@ -11,7 +11,7 @@ use Rattle.omap.specs.Output.{beside_start, fits}
 use Rattle.omap.specs.Turn.{Turn, turns}
 use Rattle.omap.specs.Refusals.{step_number}
 use Rattle.omap.specs.declared.cursor.Cursor.{Cursor}
-use Rattle.omap.specs.declared.cursor.Range.{Range}
+use Rattle.omap.specs.declared.piece.Range.{Range}
 use Rattle.omap.specs.declared.cursor.StepRefusal.{StepRefusal}
 use Rattle.omap.specs.declared.cursor.Step.{Step}
 

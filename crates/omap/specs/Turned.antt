@@ -1,7 +1,8 @@
 -- What the cursor's own functions hand each other. No public promise cites this file.
 use Rattle.std.specs.Prelude.{◌+◌, cond, List, [], ◌∷◌, leb, Result, Ok, Err, Some, None}
 use Rattle.omap.specs.Records.{Entry}
-use Rattle.omap.specs.Output.{beside_start, fits}
+use Rattle.omap.specs.Output.{fits}
+use Rattle.omap.specs.Told.{as_range}
 use Rattle.omap.specs.Turn.{Turn, turn_with, end_of}
 use Rattle.omap.specs.Step.{translated}
 use Rattle.omap.specs.declared.cursor.Cursor.{Cursor}
@@ -20,7 +21,7 @@ turned_by t =
     cond (translated t)
     (cond (leb t.owner.source t.part.at)
     (cond (fits t.part)
-    (Ok (record { range = Some (record { start = t.part.to; end = beside_start t.part }); next = t.after }))
+    (Ok (record { range = Some (as_range t.part); next = t.after }))
     (Err TooLarge))
     (Err Early))
     (Ok (record { range = None; next = t.after }))

@@ -9,7 +9,7 @@ ghost use Rattle.omap.specs.Turn.{turn_with};
 ghost use Rattle.omap.specs.Turned.{next_turn, turned_by};
 
 use crate::lookups::{Entry, entry_at};
-use crate::piece::Piece;
+use crate::piece::{Piece, Range};
 use lent::{Numbered, OMAP, Refusal, binary_search, bytes_or_none};
 
 #[repr(C)]
@@ -24,14 +24,6 @@ pub struct Cursor {
     pub target: u32,
     // The place of the next record to pull.
     pub place: usize,
-}
-
-// Where a piece goes: its start there, and its excluded end.
-#[repr(C)]
-#[derive(Clone, Copy)]
-pub struct Range {
-    pub start: u32,
-    pub end: u32,
 }
 
 // Why a step is refused.
@@ -98,10 +90,8 @@ fn turn(c: Cursor, pulled: Entry, place: usize) -> Result<Turned, StepRefusal>
         to: (c.address - c.source) as u64 + c.target as u64,
     };
     if piece.fits() {
-        let start = piece.to as u32;
-        let end = piece.beside_start() as u32;
         Ok(Turned {
-            range: Some(Range { start, end }),
+            range: Some(piece.range()),
             next,
         })
     } else {

@@ -3,6 +3,7 @@ ghost use Rattle.std.specs.Prelude.{◌≡◌, true, length};
 ghost use Rattle.omap.specs.Output.{all_fit};
 ghost use Rattle.omap.specs.Ahead.{ahead};
 
+use crate::piece::Range;
 use crate::walk::Pieces;
 use lent::SumRefusal;
 
@@ -43,8 +44,9 @@ impl<'t> Fitting<'t> {
         ensures { out.new ≡ written_over (flat (ahead self.entry.pieces)) out.old }
     {
         for (i, piece) in self.pieces.enumerate() {
-            out[2 * i] = piece.to as u32;
-            out[2 * i + 1] = piece.beside_start() as u32;
+            let Range { start, end } = piece.range();
+            out[2 * i] = start;
+            out[2 * i + 1] = end;
         }
     }
 }

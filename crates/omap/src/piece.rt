@@ -12,9 +12,18 @@ pub struct Piece {
     ghost small: { to + size ≤ 12884901888 },
 }
 
+// Where a piece goes: its start there, and its excluded end.
+#[repr(C)]
+#[derive(Clone, Copy)]
+pub struct Range {
+    pub start: u32,
+    pub end: u32,
+}
+
 impl Piece {
+    ghost use Rattle.std.specs.Prelude.{true};
     ghost use Rattle.omap.specs.Output.{beside_start, fits};
-    ghost use Rattle.omap.specs.Told.{told_piece};
+    ghost use Rattle.omap.specs.Told.{as_range, told_piece};
 
     // Whether it fits 32 bits: refusal 4 if not.
     #[tactic(auto, unfolding(crate::specs::Output::fits))]
@@ -30,5 +39,16 @@ impl Piece {
         ensures { result ≡ beside_start (told_piece self) }
     {
         self.to + self.size
+    }
+
+    // Where it goes, if it fits.
+    pub fn range(self) -> Range
+        requires { fits (told_piece self) ≡ true }
+        ensures { result ≡ as_range (told_piece self) }
+    {
+        Range {
+            start: self.to as u32,
+            end: self.beside_start() as u32,
+        }
     }
 }

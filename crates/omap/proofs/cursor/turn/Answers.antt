@@ -1,7 +1,5 @@
 use mathlib.Core.Path.{sym, ◌∙◌}
 use native.Mathlib.Omega.{arith}
-use Rattle.omap.specs.Turn.{turn_with}
-use Rattle.omap.proofs.Pieces.{fits-shown}
 use Rattle.omap.proofs.Turns.{part-empty, part-zero, part-some, turn-skips, turn-early, turn-piece, turn-large}
 use Rattle.omap.proofs.cursor.turn.Goals as goal
 
@@ -22,26 +20,16 @@ returns-then-c c =
     turn-early a.pulled a.place a.c (part-some a.pulled a.place a.c (omega (arith, c.min-stop.ensures)) c.if-c-eq0.false)
     (omega arith)
 
-pub overflow_cast-start : goal.overflow_cast-start
-overflow_cast-start c =
-    let a = c.args in
-    let fit = rw c.min-stop.ensures at c.fits.ensures in
-    omega (arith, (fits-shown (turn_with a.pulled a.place a.c).part (sym fit ∙ c.if-fits.true)).0)
-
-pub overflow_cast-end : goal.overflow_cast-end
-overflow_cast-end c =
-    let a = c.args in
-    let fit = rw c.min-stop.ensures at c.fits.ensures in
-    let beside = rw c.min-stop.ensures at c.beside_start-end.ensures in
-    omega (arith, beside, (fits-shown (turn_with a.pulled a.place a.c).part (sym fit ∙ c.if-fits.true)).1)
+pub range-requires : goal.range-requires
+range-requires c = sym c.fits.ensures ∙ c.if-fits.true
 
 pub returns-then-fits : goal.returns-then-fits
 returns-then-fits c =
     let a = c.args in
     let fit = rw c.min-stop.ensures at c.fits.ensures in
-    let beside = rw c.min-stop.ensures at c.beside_start-end.ensures in
-    turn-piece a.pulled a.place a.c (part-some a.pulled a.place a.c (omega (arith, c.min-stop.ensures)) c.if-c-eq0.false)
-    (omega arith) (sym fit ∙ c.if-fits.true) c.min-stop.result c.beside_start-end.result c.min-stop.ensures beside
+    rw (c.range.ensures, c.min-stop.ensures)
+    (turn-piece a.pulled a.place a.c (part-some a.pulled a.place a.c (omega (arith, c.min-stop.ensures)) c.if-c-eq0.false)
+    (omega arith) (sym fit ∙ c.if-fits.true))
 
 pub returns-else-fits : goal.returns-else-fits
 returns-else-fits c =
