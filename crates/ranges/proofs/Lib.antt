@@ -1,4 +1,3 @@
-pub mod Planning
 pub mod Writing
 pub mod Listing
 pub mod Draining

@@ -1,2 +1,1 @@
 pub mod ListOut
-pub mod Inside
