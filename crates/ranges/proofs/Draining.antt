@@ -1,19 +1,20 @@
 -- The drain's loop: a cursor that yields the numbers to write, and one piece taken from it.
 -- Assumes nothing.
 use mathlib.Core.Path.{◌≡◌, refl, sym, ap, ◌∙◌}
-use Prim.Native.Nat.{ℕ, zero, suc, ◌/◌, ◌≤◌, ◌<◌}
+use Prim.Native.Nat.{ℕ, zero, suc, ◌+◌, ◌*◌, ◌/◌, ◌≤◌, ◌<◌}
 use native.Mathlib.Omega.{arith}
 use mathlib.Core.Bool.{Bool, true, false}
 use mathlib.Core.List.{List, [], ◌∷◌}
 use mathlib.Core.Option.{Option, none, some}
-use lib.ListN.{length}
-use Rattle.std.specs.Prelude.{Result, Ok, Err, Option as Maybe, Some, None}
-use Rattle.lent.specs.Paper.{Told, value, nothing, refused, unless, first_fault, and_then}
+use lib.ListN.{length, set}
+use Rattle.std.specs.Prelude.{Result, Ok, Err, Option as Maybe, Some, None, IsOk, IsSome, is_some}
+use Rattle.lent.specs.Paper.{Told, value, nothing, refused, number, told_value, unless, first_fault, and_then}
+use Rattle.lent.specs.declared.refusal.Refusal.{Refusal}
 use Rattle.lent.specs.Order.{omap_fault}
 use Rattle.lent.specs.Room.{counted, written_over}
 use Rattle.omap.specs.Records.{records}
 use Rattle.omap.specs.Window.{Piece, window_pieces}
-use Rattle.omap.specs.Output.{all_fit, flat, sum_fault, marked_fault, window_fault, window_spec, window_out}
+use Rattle.omap.specs.Output.{all_fit, flat, sum_fault, window_fault, window_spec, window_out}
 use Rattle.omap.specs.Step.{Stepped, told_answer, told_step, start_on, start_spec, step_spec}
 use Rattle.omap.specs.Yields.{yielded, yields}
 use Rattle.omap.specs.declared.cursor.Cursor.{Cursor}
@@ -21,7 +22,12 @@ use Rattle.omap.specs.declared.piece.Range.{Range}
 use Rattle.omap.specs.declared.cursor.Step.{Step}
 use Rattle.omap.specs.declared.cursor.StepRefusal.{StepRefusal}
 use Rattle.omap.proofs.Outputs.{answer-pieces}
+use Rattle.omap.proofs.Outputs.{length-flat}
 use Rattle.omap.proofs.Stepping.{stepping-fits}
+use Rattle.std.specs.Borrow.{Bor}
+use Rattle.lent.specs.Table.{bytes_of}
+use Rattle.ranges.specs.declared.reader.RangeReader.{RangeReader}
+use Rattle.ranges.proofs.Writing.{Writing, writing-first, writing-two, writing-last, some_left, writing-on}
 
 -- stepped to its end, the cursor yields these numbers
 pub record YieldsAll (present : Bool) (s : List ℕ) (c : Cursor) (l : List ℕ) : Type 0 where
@@ -52,6 +58,11 @@ starts true s a b n e q =
     let f : none ≡ omap_fault s = no-fault (omap_fault s) (sum_fault (window_pieces true s a b)) e in
     not-refused (omap_fault s) (start_on (records s) a b) n f q
 starts false s a b n e q = cc
+
+pub started : (present : Bool) (s : List ℕ) (a b : ℕ) (r : Result Cursor Refusal) → none ≡ window_fault present s a b
+    → told_value number r ≡ start_spec present s a b → IsOk r
+started present s a b (Ok c) e q = refl
+started present s a b (Err why) e q = absurd (starts present s a b (number why) e q)
 
 -- one that has room leaves its pieces as pairs
 pub drained-out : (present : Bool) (s : List ℕ) (a b : ℕ) (out : List ℕ) (l : List Piece) (n : ℕ)
@@ -97,3 +108,56 @@ module _ {present : Bool} {s : List ℕ} where
   pub taken-from : {c : Cursor} {l : List ℕ} (t : Step) → YieldsAll present s c l → 0 < length l
       → told_step t ≡ step_spec present s c → TakenFrom present s l t
   taken-from {c} {l} t g h e = by-yield g.steps c l t h e g.gives
+
+-- ---- where the loop stands: of n pieces so many are written, and the reader's cursor yields the others
+pub record Drains (t : Maybe (Bor (List ℕ))) (a b n : ℕ) (out₀ out : List ℕ) (entry : ℕ) (r : RangeReader) : Type 0 where
+  pub same : r.table ≡ t
+  pub written : Writing (YieldsAll (is_some t) (bytes_of t)) out₀ (window_out (is_some t) (bytes_of t) a b out₀) (2 * n)
+      out (2 * entry) r.cursor
+
+pub drains-first : (t : Maybe (Bor (List ℕ))) (a b n : ℕ) (out : List ℕ) (r : RangeReader) → b ≤ 4294967295
+    → none ≡ window_fault (is_some t) (bytes_of t) a b → all_fit (window_pieces (is_some t) (bytes_of t) a b) ≡ true
+    → n ≡ length (window_pieces (is_some t) (bytes_of t) a b) → n ≤ length out / 2 → r.table ≡ t
+    → value r.cursor ≡ start_spec (is_some t) (bytes_of t) a b → Drains t a b n out out 0 r
+drains-first t a b n out r small good fit number room is begins =
+    let l : List Piece = window_pieces (is_some t) (bytes_of t) a b in
+    record {
+      same = is;
+      written = writing-first r.cursor (flat l)
+          (λ h. yields-pieces (is_some t) (bytes_of t) a b r.cursor small begins fit)
+          (omega (arith, length-flat l)) (omega arith)
+          (drained-out (is_some t) (bytes_of t) a b out l n refl good number room);
+    }
+
+module _ {t : Maybe (Bor (List ℕ))} {a b n : ℕ} {out₀ out : List ℕ} {entry : ℕ} {r : RangeReader}
+    (w : Drains t a b n out₀ out entry r) where
+  pub drains-last : n ≤ entry → out ≡ window_out (is_some t) (bytes_of t) a b out₀
+  drains-last h = writing-last w.written (omega arith)
+
+  module _ (h : entry < n) (step : Step) (e : told_step step ≡ step_spec (is_some r.table) (bytes_of r.table) r.cursor) where
+    pub next-taken : TakenFrom (is_some t) (bytes_of t) w.written.left step
+    next-taken =
+        let more : 2 * entry < 2 * n = omega arith in
+        taken-from step (writing-on w.written more) (some_left w.written more) (rw w.same at e)
+
+    -- the answer of the step, taken apart as the code does
+    pub is-ok : IsOk step.answer
+    is-ok = rw next-taken.is refl
+
+    module _ (found : Maybe Range) (ok : step.answer ≡ Ok found) where
+      found-is : found ≡ Some next-taken.range
+      found-is = let k : Ok found ≡ Ok (Some next-taken.range) = sym ok ∙ next-taken.is in cc
+
+      pub is-there : IsSome found
+      is-there = rw found-is refl
+
+      pub drains-more : (x : Range) → found ≡ Some x → (next : RangeReader) → next.table ≡ r.table → next.cursor ≡ step.cursor
+          → Drains t a b n out₀ (set (set out (2 * entry) x.start) (2 * entry + 1) x.end) (entry + 1) next
+      drains-more x is next table cursor =
+          let k : x ≡ next-taken.range = let q : Some x ≡ Some next-taken.range = sym is ∙ found-is in cc in
+          let two : 2 * (entry + 1) ≡ 2 * entry + 2 = omega arith in
+          record {
+            same = table ∙ w.same;
+            written = rw (k, two, cursor) (writing-two w.written step.cursor (λ h. next-taken.yields) next-taken.range.start
+                next-taken.range.end next-taken.split);
+          }

@@ -1,27 +1,23 @@
--- The list's loop: a walk that still gives the records to write.
+-- The list's loop: the records left to write, written onto the list as it is, give the list as it will be.
 -- Assumes nothing.
 use mathlib.Core.Path.{◌≡◌, refl, sym, ap, ◌∙◌}
-use Prim.Native.Nat.{ℕ, ◌≤◌}
+use Prim.Native.Nat.{ℕ, ◌+◌, ◌≤◌, ◌<◌}
+use native.Mathlib.Numerals.{add-one}
 use native.Mathlib.Omega.{arith}
 use mathlib.Core.Bool.{Bool, true}
-use mathlib.Core.List.{List, ◌∷◌, map}
+use mathlib.Core.List.{List, [], ◌∷◌, map}
 use mathlib.Core.Option.{none}
-use lib.ListN.{length, length-map}
-use Rattle.lent.specs.Room.{counted, written_over, out_after}
-use Rattle.omap.specs.Ahead.{ahead}
+use lib.ListN.{length, set, length-set, length-map}
+use lib.Seq.{sets}
+use Rattle.lent.specs.Room.{counted, written_over}
+use Rattle.lent.proofs.Wrote.{front}
 use Rattle.omap.specs.Window.{Piece, window_pieces}
 use Rattle.omap.specs.Output.{fits, all_fit, window_fault, window_spec}
 use Rattle.omap.specs.Told.{as_range}
 use Rattle.omap.specs.declared.piece.Range.{Range}
-use Rattle.omap.specs.declared.walk.Pieces.{Pieces}
 use Rattle.omap.proofs.Outputs.{answer-pieces}
 use Rattle.omap.proofs.Pieces.{first_fits, others-fit}
 use Rattle.ranges.specs.ListOut.{list_out}
-
--- the records l are those of the pieces that w still has to come, which all fit
-pub record Lists (w : Pieces) (l : List Range) : Type 0 where
-  pub same : map as_range (ahead w) ≡ l
-  pub fit : all_fit (ahead w) ≡ true
 
 -- a window that is not refused and has room leaves the records of its pieces
 pub listed-out : (present : Bool) (s : List ℕ) (a b : ℕ) (out : List Range) (l : List Piece) (n : ℕ)
@@ -33,16 +29,40 @@ listed-out present s a b out l n e f m h =
     = answer-pieces present s a b (length out) n f (m ∙ ap length (sym e)) h in
     rw (← w, e)
 
--- a piece more
-module _ (w next : Pieces) (l : List Range) (g : Lists w l) (p : Piece) (e : ahead w ≡ p ∷ ahead next) where
-  here : all_fit (p ∷ ahead next) ≡ true
-  here = rw e at g.fit
+-- where the loop stands: k records of the pieces `all` are written, and those of `left` are to come
+pub record Listing (all left : List Piece) (out₀ out : List Range) (k : ℕ) : Type 0 where
+  pub kept : length out ≡ length out₀
+  pub fit : all_fit left ≡ true
+  pub room : k + length left ≤ length out
+  pub more : sets out k (map as_range left) ≡ written_over (map as_range all) out₀
 
-  pub next-fits : fits p ≡ true
-  next-fits = first_fits p (ahead next) here
+pub listing-first : (all : List Piece) (out : List Range) → all_fit all ≡ true → length all ≤ length out
+    → Listing all all out out 0
+listing-first all out f h = record {
+  kept = refl;
+  fit = f;
+  room = omega arith;
+  more = front (map as_range all) out (omega (arith, length-map all as_range));
+}
 
-  pub lists-split : l ≡ as_range p ∷ map as_range (ahead next)
-  lists-split = sym g.same ∙ ap (map as_range) e
+module _ (all left : List Piece) (out₀ out : List Range) (k : ℕ) (w : Listing all left out₀ out k) where
+  pub listing-last : left ≡ [] → out ≡ written_over (map as_range all) out₀
+  listing-last e = rw e at w.more
 
-  pub lists-more : Lists next (map as_range (ahead next))
-  lists-more = record { same = refl; fit = others-fit p (ahead next) here }
+  module _ (p : Piece) (rest : List Piece) (e : left ≡ p ∷ rest) where
+    here : all_fit (p ∷ rest) ≡ true
+    here = rw e at w.fit
+
+    pub next-fits : fits p ≡ true
+    next-fits = first_fits p rest here
+
+    pub room-here : k < length out
+    room-here = omega (arith, ap length e, w.room)
+
+    pub listing-more : Listing all rest out₀ (set out k (as_range p)) (k + 1)
+    listing-more = record {
+      kept = simp length-set w.kept;
+      fit = others-fit p rest here;
+      room = simp length-set (omega (arith, ap length e, w.room));
+      more = rw add-one (rw e at w.more);
+    }

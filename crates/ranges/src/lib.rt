@@ -17,12 +17,7 @@ pub use omap::piece::Range as Piece;
 // The pieces of a..b as records of start and end, in source order, with the answers of `omap::windows::window`; an entry
 // of the lent list is a record. A refused call writes nothing.
 #[tactic(auto, unfolding(omap::specs::Output::window_spec, crate::specs::ListOut::list_out, lent::specs::Room::room_for))]
-pub fn list(
-    table: Option<&[u8]>,
-    a: u32,
-    b: u32,
-    out: &mut [Piece],
-) -> Result<usize, WindowRefusal>
+pub fn list(table: Option<&[u8]>, a: u32, b: u32, out: &mut [Piece]) -> Result<usize, WindowRefusal>
     ensures answer { told_windowed result ≡ window_spec (is_some table.entry) (bytes_of table.entry) a b (length out.old) }
     ensures output { out.new ≡ list_out (is_some table.entry) (bytes_of table.entry) a b out.old }
 {

@@ -44,12 +44,7 @@ impl<'t> RangeReader<'t> {
 
 // The pieces of a..b as pairs, as `omap::windows::window` writes them: a reader is stepped once for each.
 #[tactic(auto, unfolding(omap::specs::Output::window_spec, omap::specs::Output::window_out, lent::specs::Room::room_for))]
-pub fn drain(
-    table: Option<&[u8]>,
-    a: u32,
-    b: u32,
-    out: &mut [u32],
-) -> Result<usize, WindowRefusal>
+pub fn drain(table: Option<&[u8]>, a: u32, b: u32, out: &mut [u32]) -> Result<usize, WindowRefusal>
     ensures answer { told_windowed result
         ≡ window_spec (is_some table.entry) (bytes_of table.entry) a b (length out.old / 2) }
     ensures output { out.new ≡ window_out (is_some table.entry) (bytes_of table.entry) a b out.old }
@@ -58,21 +53,15 @@ pub fn drain(
     if window.count > out.len() / 2 {
         return Err(WindowRefusal::Short(window.count));
     }
-    let Ok(cursor) = Cursor::start(table, a, b) else {
-        // A window that is not refused has a table that is not.
-        unreachable!()
-    };
+    // A window that is not refused is not refused at its start, and its cursor yields as many pieces as it has.
+    let cursor = Cursor::start(table, a, b).unwrap();
     let mut reader = RangeReader::new(table, cursor);
     for entry in 0..window.count {
-        let Step { answer, cursor } = reader.next();
-        let Ok(Some(range)) = answer else {
-            // A cursor yields as many pieces as the window has.
-            unreachable!()
-        };
-        let Range { start, end } = range;
+        let step = reader.next();
+        let Range { start, end } = step.answer.unwrap().unwrap();
         out[2 * entry] = start;
         out[2 * entry + 1] = end;
-        reader = reader.moved(cursor);
+        reader = reader.moved(step.cursor);
     }
     Ok(window.count)
 }
