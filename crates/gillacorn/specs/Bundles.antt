@@ -1,19 +1,18 @@
 -- What the face shows of bundles.
-use Rattle.std.specs.Prelude.{true, false}
+use Rattle.std.specs.Prelude.{true, false, Option as Maybe, Some, None}
 use Rattle.lent.specs.Paper.{Told, value, nothing, refused}
 use Rattle.lent.specs.Room.{Written, counted, refused_as, refused_for}
+use Rattle.bundle.specs.Layout.{Spans}
 use Rattle.bundle.specs.declared.Span.{Span}
-use Rattle.bundle.specs.declared.Span.TheVariants.{Absent, At}
-use Rattle.bundle.specs.declared.Spans.{Spans}
 use Rattle.gillacorn.specs.declared.bundles.PartSpan.{PartSpan}
 use Rattle.gillacorn.specs.declared.bundles.PartSpans.{PartSpans}
 use Rattle.gillacorn.specs.declared.bundles.SpansAnswer.{SpansAnswer}
 use Rattle.gillacorn.specs.declared.bundles.BytesAnswer.{BytesAnswer}
 
 -- a mark, and numbers that are 0 where the part is absent
-abbrev pub span_shown : Span → PartSpan
-span_shown Absent = record { present = false; start = 0; length = 0 }
-span_shown (At start size) = record { present = true; start = start; length = size }
+abbrev pub span_shown : Maybe Span → PartSpan
+span_shown None = record { present = false; start = 0; length = 0 }
+span_shown (Some s) = record { present = true; start = s.start; length = s.length }
 
 abbrev pub spans_shown : Spans → PartSpans
 spans_shown x =
@@ -30,12 +29,12 @@ spans_shown x =
 abbrev pub no_spans : Spans
 no_spans =
     record {
-      original_sections = Absent;
-      transformed_sections = Absent;
-      to_original = Absent;
-      to_transformed = Absent;
-      old_frames = Absent;
-      new_frames = Absent;
+      original_sections = None;
+      transformed_sections = None;
+      to_original = None;
+      to_transformed = None;
+      old_frames = None;
+      new_frames = None;
     }
 
 abbrev pub spans_answer : Told Spans → SpansAnswer

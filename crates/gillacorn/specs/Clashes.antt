@@ -1,7 +1,8 @@
 -- What the face shows of a clash and of the way back.
 use Rattle.std.proofs.Math.Option.{Option, none, some}
 use Rattle.lent.specs.Paper.{Told, value, nothing, refused}
-use Rattle.clash.specs.Clash.{Pair, Sources, one, two}
+use Rattle.clash.specs.Clash.{Sources, one, two}
+use Rattle.clash.specs.declared.pairs.Pair.{Pair}
 use Rattle.gillacorn.specs.declared.clashes.PairAnswer.{PairAnswer}
 use Rattle.gillacorn.specs.declared.clashes.SourcesAnswer.{SourcesAnswer}
 

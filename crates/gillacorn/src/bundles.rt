@@ -1,11 +1,12 @@
 // Bundles: the tables of a build in one file.
 ghost use Rattle.std.specs.Prelude.{◌≡◌, length};
-ghost use Rattle.lent.specs.Paper.{refused};
-ghost use Rattle.bundle.specs.Reading.{told_opened, read_spec};
-ghost use Rattle.bundle.specs.Writing.{lent_parts, told_packed, write_spec, write_out};
+ghost use Rattle.lent.specs.Paper.{told_value};
+ghost use Rattle.bundle.specs.Reading.{read_number, read_spec};
+ghost use Rattle.bundle.specs.Writing.{lent_parts, told_written, write_spec, write_out};
 ghost use Rattle.gillacorn.specs.Bundles.{span_shown, spans_shown, spans_answer, bytes_answer};
 
-use bundle::{Opened, Packed, Span, Spans};
+use bundle::{Parts, ReadRefusal, Span, WriteRefusal};
+use lent::{Numbered, if_present};
 
 // Where a part lies in its file.
 #[repr(C)]
@@ -41,71 +42,56 @@ pub struct BytesAnswer {
     pub bytes: usize,
 }
 
-fn span_shown(span: Span) -> PartSpan
+fn span_shown(span: Option<Span>) -> PartSpan
     ensures { result ≡ span_shown span }
 {
     match span {
-        Span::Absent => PartSpan {
-            present: false,
-            start: 0,
-            length: 0,
-        },
-        Span::At(start, length) => PartSpan {
+        Some(Span { start, length }) => PartSpan {
             present: true,
             start,
             length,
         },
+        None => PartSpan {
+            present: false,
+            start: 0,
+            length: 0,
+        },
     }
 }
 
-fn spans_shown(spans: Spans) -> PartSpans
+fn spans_shown(spans: Parts<Option<Span>>) -> PartSpans
     ensures { result ≡ spans_shown spans }
 {
-    let original_sections = spans.original_sections;
-    let transformed_sections = spans.transformed_sections;
-    let to_original = spans.to_original;
-    let to_transformed = spans.to_transformed;
-    let old_frames = spans.old_frames;
-    let new_frames = spans.new_frames;
     PartSpans {
-        original_sections: span_shown(original_sections),
-        transformed_sections: span_shown(transformed_sections),
-        to_original: span_shown(to_original),
-        to_transformed: span_shown(to_transformed),
-        old_frames: span_shown(old_frames),
-        new_frames: span_shown(new_frames),
+        original_sections: span_shown(spans.original_sections),
+        transformed_sections: span_shown(spans.transformed_sections),
+        to_original: span_shown(spans.to_original),
+        to_transformed: span_shown(spans.to_transformed),
+        old_frames: span_shown(spans.old_frames),
+        new_frames: span_shown(spans.new_frames),
     }
 }
 
-// All parts absent, beside a refusal.
-fn refused(code: u32) -> SpansAnswer
-    ensures { result ≡ spans_answer (refused code) }
+fn spans_answer(answer: Result<Parts<Option<Span>>, ReadRefusal>) -> SpansAnswer
+    ensures { result ≡ spans_answer (told_value read_number answer) }
 {
-    SpansAnswer {
-        code,
-        spans: spans_shown(Spans {
-            original_sections: Span::Absent,
-            transformed_sections: Span::Absent,
-            to_original: Span::Absent,
-            to_transformed: Span::Absent,
-            old_frames: Span::Absent,
-            new_frames: Span::Absent,
-        }),
-    }
-}
-
-fn spans_answer(opened: Opened) -> SpansAnswer
-    ensures { result ≡ spans_answer (told_opened opened) }
-{
-    match opened {
-        Opened::Parts(spans) => SpansAnswer {
+    match answer {
+        Ok(spans) => SpansAnswer {
             code: 0,
             spans: spans_shown(spans),
         },
-        Opened::TooLarge => refused(lent::TOO_LARGE),
-        Opened::NotABundle => refused(lent::NOT_A_BUNDLE),
-        Opened::OtherVersion => refused(lent::OTHER_VERSION),
-        Opened::Layout => refused(lent::LAYOUT),
+        // All parts absent, beside a refusal.
+        Err(why) => SpansAnswer {
+            code: why.number(),
+            spans: spans_shown(Parts {
+                original_sections: None,
+                transformed_sections: None,
+                to_original: None,
+                to_transformed: None,
+                old_frames: None,
+                new_frames: None,
+            }),
+        },
     }
 }
 
@@ -115,18 +101,20 @@ pub fn gillacorn_bundle_read(file: &[u8]) -> SpansAnswer
     spans_answer(bundle::read(file))
 }
 
-fn bytes_answer(packed: Packed) -> BytesAnswer
-    ensures { result ≡ bytes_answer (told_packed packed) }
+fn bytes_answer(answer: Result<usize, WriteRefusal>) -> BytesAnswer
+    ensures { result ≡ bytes_answer (told_written answer) }
 {
-    match packed {
-        Packed::Bytes(bytes) => BytesAnswer { code: 0, bytes },
-        Packed::TooLarge => BytesAnswer {
-            code: lent::TOO_LARGE,
-            bytes: 0,
-        },
-        Packed::Short(bytes) => BytesAnswer {
-            code: lent::SHORT,
-            bytes,
+    match answer {
+        Ok(bytes) => BytesAnswer { code: 0, bytes },
+        Err(why) => match why {
+            WriteRefusal::TooLarge => BytesAnswer {
+                code: why.number(),
+                bytes: 0,
+            },
+            WriteRefusal::Short(bytes) => BytesAnswer {
+                code: why.number(),
+                bytes,
+            },
         },
     }
 }
@@ -159,19 +147,13 @@ pub fn gillacorn_bundle_write<'s>(
         new_frames.now)
         out.old) }
 {
-    bytes_answer(bundle::write(
-        has_original_sections,
-        original_sections,
-        has_transformed_sections,
-        transformed_sections,
-        has_to_original,
-        to_original,
-        has_to_transformed,
-        to_transformed,
-        has_old_frames,
-        old_frames,
-        has_new_frames,
-        new_frames,
-        out,
-    ))
+    let parts = Parts {
+        original_sections: if_present(has_original_sections, original_sections),
+        transformed_sections: if_present(has_transformed_sections, transformed_sections),
+        to_original: if_present(has_to_original, to_original),
+        to_transformed: if_present(has_to_transformed, to_transformed),
+        old_frames: if_present(has_old_frames, old_frames),
+        new_frames: if_present(has_new_frames, new_frames),
+    };
+    bytes_answer(bundle::write(parts, out))
 }

@@ -3,8 +3,8 @@ ghost use Rattle.std.specs.Prelude.{◌≡◌};
 ghost use Rattle.clash.specs.Clash.{told_clashed, clash_spec, told_back, back_spec};
 ghost use Rattle.gillacorn.specs.Clashes.{pair_answer, sources_answer};
 
-use clash::{Back, Clashed};
-use lent::refusal_number;
+use clash::{Pair, Sources};
+use lent::{Numbered, SumRefusal};
 
 // The least two addresses that share a translation, beside the code.
 #[repr(C)]
@@ -25,63 +25,52 @@ pub struct SourcesAnswer {
     pub second: u32,
 }
 
-fn pair_answer(clashed: Clashed) -> PairAnswer
-    ensures { result ≡ pair_answer (told_clashed clashed) }
+fn pair_answer(answer: Result<Option<Pair>, SumRefusal>) -> PairAnswer
+    ensures { result ≡ pair_answer (told_clashed answer) }
 {
-    match clashed {
-        Clashed::Single => PairAnswer {
-            code: 255,
-            first: 0,
-            second: 0,
-        },
-        Clashed::Pair(first, second) => PairAnswer {
+    match answer {
+        Ok(Some(Pair { first, second })) => PairAnswer {
             code: 0,
             first,
             second,
         },
-        Clashed::Refused(why) => PairAnswer {
-            code: refusal_number(why),
+        Ok(None) => PairAnswer {
+            code: 255,
             first: 0,
             second: 0,
         },
-        Clashed::TooLarge => PairAnswer {
-            code: lent::TOO_LARGE,
+        Err(why) => PairAnswer {
+            code: why.number(),
             first: 0,
             second: 0,
         },
     }
 }
 
-fn sources_answer(back: Back) -> SourcesAnswer
-    ensures { result ≡ sources_answer (told_back back) }
+fn sources_answer(answer: Result<Option<Sources>, SumRefusal>) -> SourcesAnswer
+    ensures { result ≡ sources_answer (told_back answer) }
 {
-    match back {
-        Back::Nothing => SourcesAnswer {
-            code: 255,
-            sources: 0,
-            first: 0,
-            second: 0,
-        },
-        Back::One(first) => SourcesAnswer {
+    match answer {
+        Ok(Some(Sources::One(first))) => SourcesAnswer {
             code: 0,
             sources: 1,
             first,
             second: 0,
         },
-        Back::Two(first, second) => SourcesAnswer {
+        Ok(Some(Sources::Two(first, second))) => SourcesAnswer {
             code: 0,
             sources: 2,
             first,
             second,
         },
-        Back::Refused(why) => SourcesAnswer {
-            code: refusal_number(why),
+        Ok(None) => SourcesAnswer {
+            code: 255,
             sources: 0,
             first: 0,
             second: 0,
         },
-        Back::TooLarge => SourcesAnswer {
-            code: lent::TOO_LARGE,
+        Err(why) => SourcesAnswer {
+            code: why.number(),
             sources: 0,
             first: 0,
             second: 0,

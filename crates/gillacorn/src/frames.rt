@@ -1,19 +1,17 @@
 // Frames, one by one and merged.
 ghost use Rattle.std.specs.Prelude.{◌≡◌};
-ghost use Rattle.lent.specs.Table.{if_present};
+ghost use Rattle.lent.specs.Paper.{number, told_value};
+ghost use Rattle.lent.specs.Table.{bytes_of, if_present};
 ghost use Rattle.framedata.specs.Attributes.{type_number};
-ghost use Rattle.framedata.specs.Frame.{told_frame, told_framed, told_stack, told_program, old_frame_spec, new_frame_spec};
+ghost use Rattle.framedata.specs.Frame.{told_frame, told_framed, old_frame_spec, new_frame_spec};
 ghost use Rattle.framedata.specs.Step.{told_step, step_spec};
-ghost use Rattle.framedata.specs.Start.{told_started, start_spec};
-ghost use Rattle.framedata.specs.Tables.{told_emptiness, empty_spec};
-ghost use Rattle.gillacorn.specs.Frames.{is_there, or0, frame_shown, no_frame, frame_answer, frame_cursor_answer, frame_step_answer, yes_answer};
+ghost use Rattle.framedata.specs.Start.{start_spec};
+ghost use Rattle.framedata.specs.Tables.{empty_spec};
+ghost use Rattle.gillacorn.specs.Frames.{frame_shown, no_frame, frame_answer, frame_cursor_answer, frame_step_answer, yes_answer};
 
 use crate::code::ValueAnswer;
-use framedata::{
-    Emptiness, FrameCursor, FrameData, FrameStarted, FrameStep, FrameType, Framed, Program,
-    StackSize,
-};
-use lent::refusal_number;
+use framedata::{FrameCursor, FrameData, FrameStep, FrameTable, FrameType};
+use lent::{Numbered, Refusal, SumRefusal};
 
 #[repr(C)]
 #[derive(Clone, Copy)]
@@ -70,50 +68,11 @@ fn type_of(ty: FrameType) -> u32
     }
 }
 
-fn has_stack(size: StackSize) -> bool
-    ensures { result ≡ is_there (told_stack size) }
-{
-    match size {
-        StackSize::Bytes(_) => true,
-        StackSize::Nothing => false,
-    }
-}
-
-fn stack_of(size: StackSize) -> u32
-    ensures { result ≡ or0 (told_stack size) }
-{
-    match size {
-        StackSize::Bytes(n) => n,
-        StackSize::Nothing => 0,
-    }
-}
-
-fn has_program(program: Program) -> bool
-    ensures { result ≡ is_there (told_program program) }
-{
-    match program {
-        Program::At(_) => true,
-        Program::Nothing => false,
-    }
-}
-
-fn program_of(program: Program) -> u32
-    ensures { result ≡ or0 (told_program program) }
-{
-    match program {
-        Program::At(n) => n,
-        Program::Nothing => 0,
-    }
-}
-
 fn frame_shown(frame: FrameData) -> Frame
     ensures { result ≡ frame_shown (told_frame frame) }
 {
-    let ty = frame.ty;
-    let size = frame.max_stack_size;
-    let program = frame.program;
     Frame {
-        ty: type_of(ty),
+        ty: type_of(frame.ty),
         code_start: frame.code_start,
         code_size: frame.code_size,
         locals_size: frame.locals_size,
@@ -124,10 +83,10 @@ fn frame_shown(frame: FrameData) -> Frame
         has_cpp_eh: frame.has_cpp_eh,
         is_function_start: frame.is_function_start,
         uses_base_pointer: frame.uses_base_pointer,
-        has_max_stack_size: has_stack(size),
-        has_program: has_program(program),
-        max_stack_size: stack_of(size),
-        program: program_of(program),
+        has_max_stack_size: frame.max_stack_size.is_some(),
+        has_program: frame.program.is_some(),
+        max_stack_size: frame.max_stack_size.unwrap_or(0),
+        program: frame.program.unwrap_or(0),
     }
 }
 
@@ -154,24 +113,20 @@ fn no_frame() -> Frame
     }
 }
 
-fn frame_answer(framed: Framed) -> FrameAnswer
-    ensures { result ≡ frame_answer (told_framed framed) }
+fn frame_answer(answer: Result<Option<FrameData>, SumRefusal>) -> FrameAnswer
+    ensures { result ≡ frame_answer (told_framed answer) }
 {
-    match framed {
-        Framed::Frame(frame) => FrameAnswer {
+    match answer {
+        Ok(Some(frame)) => FrameAnswer {
             code: 0,
             frame: frame_shown(frame),
         },
-        Framed::Nothing => FrameAnswer {
+        Ok(None) => FrameAnswer {
             code: 255,
             frame: no_frame(),
         },
-        Framed::Refused(why) => FrameAnswer {
-            code: refusal_number(why),
-            frame: no_frame(),
-        },
-        Framed::TooLarge => FrameAnswer {
-            code: lent::TOO_LARGE,
+        Err(why) => FrameAnswer {
+            code: why.number(),
             frame: no_frame(),
         },
     }
@@ -180,55 +135,52 @@ fn frame_answer(framed: Framed) -> FrameAnswer
 fn frame_step_answer(step: FrameStep) -> FrameStepAnswer
     ensures { result ≡ frame_step_answer (told_step step) }
 {
-    match step {
-        FrameStep::Frame(frame, cursor) => FrameStepAnswer {
-            code: 0,
-            frame: frame_shown(frame),
-            cursor,
-        },
-        FrameStep::End(cursor) => FrameStepAnswer {
-            code: 255,
-            frame: no_frame(),
-            cursor,
-        },
-        FrameStep::Refused(why, cursor) => FrameStepAnswer {
-            code: refusal_number(why),
-            frame: no_frame(),
-            cursor,
-        },
-        FrameStep::TooLarge(cursor) => FrameStepAnswer {
-            code: lent::TOO_LARGE,
-            frame: no_frame(),
-            cursor,
+    let FrameAnswer { code, frame } = frame_answer(step.answer);
+    FrameStepAnswer {
+        code,
+        frame,
+        cursor: step.cursor,
+    }
+}
+
+fn frame_cursor_answer(answer: Result<FrameCursor, Refusal>) -> FrameCursorAnswer
+    ensures { result ≡ frame_cursor_answer (told_value number answer) }
+{
+    match answer {
+        Ok(cursor) => FrameCursorAnswer { code: 0, cursor },
+        Err(why) => FrameCursorAnswer {
+            code: why.number(),
+            cursor: FrameCursor::new(),
         },
     }
 }
 
-fn frame_cursor_answer(started: FrameStarted) -> FrameCursorAnswer
-    ensures { result ≡ frame_cursor_answer (told_started started) }
+fn yes_answer(answer: Result<bool, Refusal>) -> ValueAnswer
+    ensures { result ≡ yes_answer (told_value number answer) }
 {
-    match started {
-        FrameStarted::At(cursor) => FrameCursorAnswer { code: 0, cursor },
-        FrameStarted::Refused(why) => FrameCursorAnswer {
-            code: refusal_number(why),
-            cursor: FrameCursor {
-                old_index: 0,
-                new_index: 0,
-            },
-        },
-    }
-}
-
-fn yes_answer(emptiness: Emptiness) -> ValueAnswer
-    ensures { result ≡ yes_answer (told_emptiness emptiness) }
-{
-    match emptiness {
-        Emptiness::Yes => ValueAnswer { code: 0, value: 1 },
-        Emptiness::No => ValueAnswer { code: 0, value: 0 },
-        Emptiness::Refused(why) => ValueAnswer {
-            code: refusal_number(why),
+    match answer {
+        Ok(true) => ValueAnswer { code: 0, value: 1 },
+        Ok(false) => ValueAnswer { code: 0, value: 0 },
+        Err(why) => ValueAnswer {
+            code: why.number(),
             value: 0,
         },
+    }
+}
+
+// The two tables behind their marks.
+fn frame_table<'t>(
+    has_old: bool,
+    old_frames: &'t [u8],
+    has_new: bool,
+    new_frames: &'t [u8],
+) -> FrameTable<'t>
+    ensures old { bytes_of result.old ≡ if_present has_old old_frames.now }
+    ensures new { bytes_of result.new ≡ if_present has_new new_frames.now }
+{
+    FrameTable {
+        old: lent::if_present(has_old, old_frames),
+        new: lent::if_present(has_new, new_frames),
     }
 }
 
@@ -254,7 +206,7 @@ pub fn gillacorn_frame_next(
     ensures { result ≡ frame_step_answer (step_spec (if_present has_old old_frames.now)
         (if_present has_new new_frames.now) cursor) }
 {
-    frame_step_answer(cursor.step(has_old, old_frames, has_new, new_frames))
+    frame_step_answer(cursor.step(frame_table(has_old, old_frames, has_new, new_frames)))
 }
 
 pub fn gillacorn_frames_at(
@@ -267,7 +219,7 @@ pub fn gillacorn_frames_at(
     ensures { result ≡ frame_cursor_answer (start_spec address (if_present has_old old_frames.now)
         (if_present has_new new_frames.now)) }
 {
-    frame_cursor_answer(framedata::start_at(address, has_old, old_frames, has_new, new_frames))
+    frame_cursor_answer(frame_table(has_old, old_frames, has_new, new_frames).start_at(address))
 }
 
 pub fn gillacorn_frames_empty(
@@ -278,5 +230,5 @@ pub fn gillacorn_frames_empty(
 ) -> ValueAnswer
     ensures { result ≡ yes_answer (empty_spec (if_present has_old old_frames.now) (if_present has_new new_frames.now)) }
 {
-    yes_answer(framedata::is_empty(has_old, old_frames, has_new, new_frames))
+    yes_answer(frame_table(has_old, old_frames, has_new, new_frames).is_empty())
 }

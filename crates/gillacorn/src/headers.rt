@@ -1,14 +1,15 @@
 // Section headers, their flags and names.
 ghost use Rattle.std.specs.Prelude.{◌≡◌, length};
-ghost use Rattle.pe.specs.Header.{header_spec, told_given};
-ghost use Rattle.pe.specs.declared.header.ImageSectionHeader.{ImageSectionHeader};
+ghost use Rattle.lent.specs.Paper.{number, told};
+ghost use Rattle.pe.specs.Header.{header_spec, no_header};
 ghost use Rattle.pe.specs.Flags.{alignment_spec, told_alignment};
 ghost use Rattle.pe.specs.Name.{name_spec};
-ghost use Rattle.gillacorn.specs.Code.{code_of, value_answer};
+ghost use Rattle.gillacorn.specs.Code.{value_answer};
 ghost use Rattle.gillacorn.specs.Headers.{header_answer, flags_of};
 
 use crate::code::ValueAnswer;
-use pe::{Alignment, Given, ImageSectionHeader, SectionCharacteristics};
+use lent::{Numbered, Refusal};
+use pe::{ImageSectionHeader, SectionCharacteristics};
 
 // A header beside its code; all zeros where there is none to give.
 #[repr(C)]
@@ -44,25 +45,49 @@ pub struct Flags {
     pub write: bool,
 }
 
-fn code_of(given: Given) -> u32
-    ensures { (h : ImageSectionHeader) → result ≡ code_of (told_given given h) }
+// All zeros, where there is no header to give.
+fn no_header() -> ImageSectionHeader
+    ensures { result ≡ no_header }
 {
-    match given {
-        Given::Header => 0,
-        Given::Nothing => 255,
-        Given::Refused(why) => lent::refusal_number(why),
+    ImageSectionHeader {
+        name: [0; 8],
+        virtual_size: 0,
+        virtual_address: 0,
+        size_of_raw_data: 0,
+        pointer_to_raw_data: 0,
+        pointer_to_relocations: 0,
+        pointer_to_line_numbers: 0,
+        number_of_relocations: 0,
+        number_of_line_numbers: 0,
+        characteristics: SectionCharacteristics(0),
     }
 }
 
-fn aligned(alignment: Alignment) -> ValueAnswer
+fn header_answer(answer: Result<Option<ImageSectionHeader>, Refusal>) -> HeaderAnswer
+    ensures { result ≡ header_answer (told number answer) }
+{
+    match answer {
+        Ok(Some(header)) => HeaderAnswer { code: 0, header },
+        Ok(None) => HeaderAnswer {
+            code: 255,
+            header: no_header(),
+        },
+        Err(why) => HeaderAnswer {
+            code: why.number(),
+            header: no_header(),
+        },
+    }
+}
+
+fn aligned(alignment: Option<u16>) -> ValueAnswer
     ensures { result ≡ value_answer (told_alignment alignment) }
 {
     match alignment {
-        Alignment::Bytes(n) => ValueAnswer {
+        Some(bytes) => ValueAnswer {
             code: 0,
-            value: n as u32,
+            value: u32::from(bytes),
         },
-        Alignment::Nothing => ValueAnswer {
+        None => ValueAnswer {
             code: 255,
             value: 0,
         },
@@ -72,13 +97,7 @@ fn aligned(alignment: Alignment) -> ValueAnswer
 pub fn gillacorn_header(table: &[u8], place: usize) -> HeaderAnswer
     ensures { result ≡ header_answer (header_spec table.now place) }
 {
-    let headed = pe::header_at(table, place);
-    let given = headed.given;
-    let header = headed.header;
-    HeaderAnswer {
-        code: code_of(given),
-        header,
-    }
+    header_answer(pe::header_at(table, place))
 }
 
 pub fn gillacorn_name_length(table: &[u8], number: u16) -> usize

@@ -5,6 +5,7 @@ ghost use Rattle.ranges.specs.ListOut.{list_out};
 ghost use Rattle.gillacorn.specs.Windows.{pieces_answer};
 
 use crate::windows::{PiecesAnswer, pieces_answer};
+use lent::if_present;
 use ranges::Piece;
 
 pub fn gillacorn_list(
@@ -17,5 +18,5 @@ pub fn gillacorn_list(
     ensures { (result ≡ pieces_answer (window_spec present table.now a b (length list.old)))
         × (list.new ≡ list_out present table.now a b list.old) }
 {
-    pieces_answer(ranges::list(present, table, a, b, list))
+    pieces_answer(ranges::list(if_present(present, table), a, b, list))
 }

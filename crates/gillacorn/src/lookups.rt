@@ -1,13 +1,14 @@
 // OMAP tables: records and single translations.
 ghost use Rattle.std.specs.Prelude.{◌≡◌};
-ghost use Rattle.omap.specs.Lookup.{told_recorded, record_spec, lookup_spec};
+ghost use Rattle.lent.specs.Paper.{number, told};
+ghost use Rattle.omap.specs.Lookup.{record_spec, lookup_spec};
 ghost use Rattle.omap.specs.Quick.{told_quick, quick_spec};
 ghost use Rattle.gillacorn.specs.Code.{value_answer};
 ghost use Rattle.gillacorn.specs.Lookups.{record_answer, quick_answer};
 
 use crate::code::{ValueAnswer, value_answer};
-use lent::refusal_number;
-use omap::{Quick, Recorded};
+use lent::{Numbered, Refusal, SumRefusal, if_present};
+use omap::{Entry, Quick};
 
 #[repr(C)]
 #[derive(Clone, Copy)]
@@ -26,22 +27,22 @@ pub struct QuickAnswer {
     pub probes: u32,
 }
 
-fn record_answer(recorded: Recorded) -> RecordAnswer
-    ensures { result ≡ record_answer (told_recorded recorded) }
+fn record_answer(answer: Result<Option<Entry>, Refusal>) -> RecordAnswer
+    ensures { result ≡ record_answer (told number answer) }
 {
-    match recorded {
-        Recorded::Record(source, target) => RecordAnswer {
+    match answer {
+        Ok(Some(Entry { source, target })) => RecordAnswer {
             code: 0,
             source,
             target,
         },
-        Recorded::Nothing => RecordAnswer {
+        Ok(None) => RecordAnswer {
             code: 255,
             source: 0,
             target: 0,
         },
-        Recorded::Refused(why) => RecordAnswer {
-            code: refusal_number(why),
+        Err(why) => RecordAnswer {
+            code: why.number(),
             source: 0,
             target: 0,
         },
@@ -57,30 +58,28 @@ pub fn gillacorn_record_at(table: &[u8], place: usize) -> RecordAnswer
 pub fn gillacorn_lookup(present: bool, table: &[u8], address: u32) -> ValueAnswer
     ensures { result ≡ value_answer (lookup_spec present table.now address) }
 {
-    value_answer(omap::lookup(present, table, address))
+    value_answer(omap::lookup(if_present(present, table), address))
 }
 
-fn quick_answer(quick: Quick) -> QuickAnswer
-    ensures { result ≡ quick_answer (told_quick quick) }
+// None has its probes too; a refusal has 0 there.
+fn quick_answer(answer: Result<Quick, SumRefusal>) -> QuickAnswer
+    ensures { result ≡ quick_answer (told_quick answer) }
 {
-    match quick {
-        Quick::At(value, probes) => QuickAnswer {
-            code: 0,
-            value,
-            probes,
+    match answer {
+        Ok(found) => match found.translation {
+            Some(value) => QuickAnswer {
+                code: 0,
+                value,
+                probes: found.probes,
+            },
+            None => QuickAnswer {
+                code: 255,
+                value: 0,
+                probes: found.probes,
+            },
         },
-        Quick::Nothing(probes) => QuickAnswer {
-            code: 255,
-            value: 0,
-            probes,
-        },
-        Quick::Refused(why) => QuickAnswer {
-            code: refusal_number(why),
-            value: 0,
-            probes: 0,
-        },
-        Quick::TooLarge => QuickAnswer {
-            code: lent::TOO_LARGE,
+        Err(why) => QuickAnswer {
+            code: why.number(),
             value: 0,
             probes: 0,
         },
@@ -90,5 +89,5 @@ fn quick_answer(quick: Quick) -> QuickAnswer
 pub fn gillacorn_quick_lookup(present: bool, table: &[u8], address: u32) -> QuickAnswer
     ensures { result ≡ quick_answer (quick_spec present table.now address) }
 {
-    quick_answer(omap::quick_lookup(present, table, address))
+    quick_answer(omap::quick_lookup(if_present(present, table), address))
 }

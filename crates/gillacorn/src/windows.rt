@@ -1,12 +1,14 @@
 // OMAP tables: the pieces of a window, and cursors over them.
 ghost use Rattle.std.specs.Prelude.{◌≡◌, ◌/◌, length};
+ghost use Rattle.lent.specs.Paper.{number, told_value};
 ghost use Rattle.omap.specs.Output.{told_windowed, window_spec, window_out};
-ghost use Rattle.omap.specs.Step.{told_started, start_spec, told_step, step_spec};
+ghost use Rattle.omap.specs.Step.{start_spec, told_step, step_spec};
 ghost use Rattle.gillacorn.specs.Windows.{pieces_answer, cursor_answer, step_answer};
 
-use lent::refusal_number;
+use lent::{Numbered, Refusal, if_present};
 use omap::cursor::{Cursor, Step};
-use omap::windows::Windowed;
+use omap::piece::Range;
+use omap::windows::WindowRefusal;
 
 #[repr(C)]
 #[derive(Clone, Copy)]
@@ -31,33 +33,31 @@ pub struct StepAnswer {
     pub cursor: Cursor,
 }
 
-pub fn pieces_answer(windowed: Windowed) -> PiecesAnswer
-    ensures { result ≡ pieces_answer (told_windowed windowed) }
+pub fn pieces_answer(answer: Result<usize, WindowRefusal>) -> PiecesAnswer
+    ensures { result ≡ pieces_answer (told_windowed answer) }
 {
-    match windowed {
-        Windowed::Pieces(pieces) => PiecesAnswer { code: 0, pieces },
-        Windowed::Refused(why) => PiecesAnswer {
-            code: refusal_number(why),
-            pieces: 0,
-        },
-        Windowed::TooLarge => PiecesAnswer {
-            code: lent::TOO_LARGE,
-            pieces: 0,
-        },
-        Windowed::Short(pieces) => PiecesAnswer {
-            code: lent::SHORT,
-            pieces,
+    match answer {
+        Ok(pieces) => PiecesAnswer { code: 0, pieces },
+        Err(why) => match why {
+            WindowRefusal::Table(_) | WindowRefusal::TooLarge => PiecesAnswer {
+                code: why.number(),
+                pieces: 0,
+            },
+            WindowRefusal::Short(pieces) => PiecesAnswer {
+                code: why.number(),
+                pieces,
+            },
         },
     }
 }
 
-fn cursor_answer(started: omap::cursor::Started) -> CursorAnswer
-    ensures { result ≡ cursor_answer (told_started started) }
+fn cursor_answer(answer: Result<Cursor, Refusal>) -> CursorAnswer
+    ensures { result ≡ cursor_answer (told_value number answer) }
 {
-    match started {
-        omap::cursor::Started::At(cursor) => CursorAnswer { code: 0, cursor },
-        omap::cursor::Started::Refused(why) => CursorAnswer {
-            code: refusal_number(why),
+    match answer {
+        Ok(cursor) => CursorAnswer { code: 0, cursor },
+        Err(why) => CursorAnswer {
+            code: why.number(),
             cursor: Cursor {
                 address: 0,
                 end: 0,
@@ -72,33 +72,22 @@ fn cursor_answer(started: omap::cursor::Started) -> CursorAnswer
 fn step_answer(step: Step) -> StepAnswer
     ensures { result ≡ step_answer (told_step step) }
 {
-    match step {
-        Step::Piece(cursor, start, end) => StepAnswer {
+    let cursor = step.cursor;
+    match step.answer {
+        Ok(Some(Range { start, end })) => StepAnswer {
             code: 0,
             start,
             end,
             cursor,
         },
-        Step::Done(cursor) => StepAnswer {
+        Ok(None) => StepAnswer {
             code: 255,
             start: 0,
             end: 0,
             cursor,
         },
-        Step::Refused(cursor, why) => StepAnswer {
-            code: refusal_number(why),
-            start: 0,
-            end: 0,
-            cursor,
-        },
-        Step::Early(cursor) => StepAnswer {
-            code: lent::EARLY,
-            start: 0,
-            end: 0,
-            cursor,
-        },
-        Step::TooLarge(cursor) => StepAnswer {
-            code: lent::TOO_LARGE,
+        Err(why) => StepAnswer {
+            code: why.number(),
             start: 0,
             end: 0,
             cursor,
@@ -116,17 +105,17 @@ pub fn gillacorn_window(
     ensures { (result ≡ pieces_answer (window_spec present table.now a b (length out.old / 2)))
         × (out.new ≡ window_out present table.now a b out.old) }
 {
-    pieces_answer(omap::windows::window(present, table, a, b, out))
+    pieces_answer(omap::windows::window(if_present(present, table), a, b, out))
 }
 
 pub fn gillacorn_cursor_start(present: bool, table: &[u8], a: u32, b: u32) -> CursorAnswer
     ensures { result ≡ cursor_answer (start_spec present table.now a b) }
 {
-    cursor_answer(Cursor::start(present, table, a, b))
+    cursor_answer(Cursor::start(if_present(present, table), a, b))
 }
 
 pub fn gillacorn_cursor_step(cursor: Cursor, present: bool, table: &[u8]) -> StepAnswer
     ensures { result ≡ step_answer (step_spec present table.now cursor) }
 {
-    step_answer(cursor.step(present, table))
+    step_answer(cursor.step(if_present(present, table)))
 }

@@ -1,8 +1,22 @@
-use mathlib.Core.Path.{ap, ◌∙◌}
+use mathlib.Core.Path.{refl, ap, ◌∙◌}
+use mathlib.Core.Bool.{Bool}
+use mathlib.Core.List.{List}
+use Prim.Native.Nat.{ℕ, ◌/◌}
+use lib.ListN.{length}
+use Rattle.lent.proofs.Marked.{marked}
+use Rattle.omap.specs.Output.{window_fault, window_spec, window_out}
 use Rattle.gillacorn.specs.Windows.{pieces_answer}
 use Rattle.gillacorn.proofs.windows.gillacorn_window.Goals as goal
 
 pub returns : goal.returns
+unfolding window_fault window_spec window_out
 returns c =
-    let w = c.window.ensures in
-    (c.pieces_answer.ensures ∙ ap pieces_answer w.0, w.1)
+    let a = c.args in
+    let out = a.out.now in (
+      c.pieces_answer.ensures ∙ ap pieces_answer (c.window.ensures.answer
+          ∙ marked (λ (p : Bool) (s : List ℕ). window_spec p s a.a a.b (length out / 2)) (λ s. refl) a.present a.table
+          c.if_present.result c.if_present.ensures),
+      c.window.ensures.output
+          ∙ marked (λ (p : Bool) (s : List ℕ). window_out p s a.a a.b out) (λ s. refl) a.present a.table c.if_present.result
+          c.if_present.ensures,
+    )
