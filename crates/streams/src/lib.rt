@@ -14,6 +14,7 @@ pub fn take(rt: &(impl Input + Eprint), buf: &mut [u8]) -> io::Result<usize>
     ensures { Held result buf.new }
 {
     let mut input = rt.reader();
+    // Counted by hand: the library's methods that read on to the end of an input need the heap.
     let mut done = 0;
     while done < buf.len() {
         let more = input.read(&mut buf[done..]).inspect_err(|_| {
