@@ -18,7 +18,7 @@ pub fn text_length(s: &[u8]) -> usize
         match *b {
             0 => return i,
             0x01..=0x7F => {}
-            _ => return length_from(s, i),
+            _ => return length_by_class(s, i),
         }
     }
     s.len()
@@ -26,7 +26,7 @@ pub fn text_length(s: &[u8]) -> usize
 
 // The same where all before `from` is read, and a character begins there.
 #[tactic(auto, using(crate::proofs::Reading::rest_steps))]
-fn length_from(s: &[u8], from: usize) -> usize
+fn length_by_class(s: &[u8], from: usize) -> usize
     requires { Reading s.now (some []) from }
     ensures { result ≡ length (if_utf8 (before_zero s.now)) }
 {

@@ -1,5 +1,5 @@
 use Rattle.utf8.proofs.Reading.{rest_told}
-use Rattle.utf8.proofs.text.length_from.Goals as goal
+use Rattle.utf8.proofs.text.length_by_class.Goals as goal
 
 pub loop-i-preserved : goal.loop-i-preserved
 loop-i-preserved c =
