@@ -1,10 +1,7 @@
 -- What is known of an input that was taken.
-use Rattle.std.specs.Prelude.{ℕ, List}
+use Rattle.std.specs.Prelude.{ℕ, List, Result, IfOk}
 use Rattle.io.specs.Counts.{IsPrefixLen}
-use Rattle.streams.specs.declared.Taken.{Taken}
-use Rattle.streams.specs.declared.Taken.TheVariants as taken
 
 -- where it is whole its number of bytes stands at the start of the buffer
-abbrev pub Held : Taken → List ℕ → Type 0
-Held (taken.Whole n) bytes = IsPrefixLen n bytes
-Held taken.Failed bytes = Unit {0}
+abbrev pub Held : {E : Type 0} → Result ℕ E → List ℕ → Type 0
+Held taken bytes = IfOk taken (λ n. IsPrefixLen n bytes)

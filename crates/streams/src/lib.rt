@@ -5,40 +5,32 @@
 
 ghost use Rattle.streams.specs.Taken.{Held};
 
+use std::io;
 use std::io::Read;
 
-// What taking an input gives.
-#[derive(Clone, Copy)]
-pub enum Taken {
-    // so many bytes, up to the end of the input or of the buffer
-    Whole(usize),
-    // a read failed, and no answer may be made of what came before it
-    Failed,
-}
-
-// Reads standard input until it ends or buf is full.
-pub fn take(rt: &(impl Input + Eprint), buf: &mut [u8]) -> Taken
+// Reads standard input until it ends or buf is full, and tells how many bytes that were. Where a read fails, no answer
+// may be made of what came before it.
+pub fn take(rt: &(impl Input + Eprint), buf: &mut [u8]) -> io::Result<usize>
     ensures { Held result buf.new }
 {
     let mut input = rt.reader();
+    // Counted by hand: the library's methods that read on to the end of an input need the heap.
     let mut done = 0;
     while done < buf.len() {
-        let Ok(more) = input.read(&mut buf[done..]) else {
+        let more = input.read(&mut buf[done..]).inspect_err(|_| {
             let _ = rt.eprintln("failed: standard input can't be read");
-            return Taken::Failed;
-        };
+        })?;
         if more == 0 {
-            return Taken::Whole(done);
+            break;
         }
         done += more;
     }
-    Taken::Whole(done)
+    Ok(done)
 }
 
 // Writes all of a text to standard output.
 pub fn give(rt: &(impl Print + Eprint), text: &[u8]) {
-    if rt.write_all(text).is_ok() {
-        return;
+    if rt.write_all(text).is_err() {
+        let _ = rt.eprintln("failed: standard output can't be written");
     }
-    let _ = rt.eprintln("failed: standard output can't be written");
 }

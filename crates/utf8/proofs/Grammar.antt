@@ -10,7 +10,8 @@ use mathlib.Core.List.{List, [], ◌∷◌, ◌++◌}
 use mathlib.Core.Option.{Option, none, some}
 use lib.Dec.{leb}
 use borrow.Author.Tests.{leb-true}
-use Rattle.lent.proofs.Logic.{which, and_left, and_right}
+use Rattle.std.proofs.lemmas.Bool.{cases_Bool}
+use Rattle.lent.proofs.Logic.{and_left, and_right}
 use Rattle.utf8.specs.Utf8.{Range, ◌to◌, holds, after_lead, next, completes, utf8, UTF8-char}
 use Rattle.utf8.specs.Grammar.{Among, Fit, done, byte, Text, end, char}
 use Rattle.utf8.proofs.Leads.{same, passes, led}
@@ -40,7 +41,7 @@ leads ((r ∷ qs) ∷ forms) b rs e =
     (λ (h : holds r b ≡ false).
     let k = leads forms b rs (rw h at e) in
     record { range = k.range; among = inr k.among; inside = k.inside })
-    (which (holds r b))
+    (cases_Bool (holds r b))
 
 -- bytes that complete what is begun: those that it asks for, and a text
 record Split (rs : List Range) (l : List ℕ) : Type 0 where
@@ -84,7 +85,7 @@ split (r ∷ rs) (b ∷ l) e =
       text = k.text;
     })
     (λ (h : holds r b ≡ false). contrary (sym (never l) ∙ (rw h at e)))
-    (which (holds r b))
+    (cases_Bool (holds r b))
 
 -- what passes is a text of the grammar
 pub utf8-text : (l : List ℕ) → utf8 l ≡ true → Text l

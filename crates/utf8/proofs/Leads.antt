@@ -1,32 +1,21 @@
 -- What follows the bytes of a range that lead alike: one test that antt computes over the range, carried to each of its
 -- bytes.
 -- Assumes nothing.
-use mathlib.Core.Path.{◌≡◌, refl, ap, ◌∙◌, subst}
-use mathlib.Core.Logic.{⊎_elim}
-use Prim.Native.Nat.{ℕ, zero, suc, ◌+◌, ◌-◌, ◌≤◌, ◌<◌}
-use native.Mathlib.Nat.{eq-or-lt_of_le}
+use mathlib.Core.Path.{◌≡◌, refl, ap, ◌∙◌}
+use Prim.Native.Nat.{ℕ, ◌+◌, ◌-◌, ◌≤◌, ◌<◌}
 use native.Mathlib.Omega.{arith}
 use mathlib.Core.Bool.{Bool, true, false, ◌&&◌}
 use mathlib.Core.List.{List, [], ◌∷◌}
 use mathlib.Core.Option.{Option, none, some}
 use lib.Dec.{eqb}
 use borrow.Author.Tests.{eqb-true}
+use Rattle.std.proofs.lemmas.Bool.{agree_below, agree_below_at}
 use Rattle.lent.proofs.Logic.{and_left, and_right}
-use Rattle.utf8.specs.Utf8.{Range, after_lead, UTF8-char, UTF8-tail}
-use Rattle.utf8.specs.Due.{tails}
+use Rattle.utf8.specs.Utf8.{Range, after_lead, UTF8-char}
 
--- a test passes at n numbers from i on
+-- a test passes at n numbers from lo on
 abbrev pub passes : (ℕ → Bool) → ℕ → ℕ → Bool
-passes p i zero = true
-passes p i (suc n) = p i && passes p (suc i) n
-
-pub passed : (p : ℕ → Bool) (i n : ℕ) → passes p i n ≡ true → (b : ℕ) → i ≤ b → b < i + n → p b ≡ true
-passed p i zero t b h l = absurd (omega arith)
-passed p i (suc n) t b h l =
-    ⊎_elim
-    (λ (e : i ≡ b). subst (λ (k : ℕ). p k ≡ true) e (and_left (p i) (passes p (suc i) n) t))
-    (λ (m : i < b). passed p (suc i) n (and_right (p i) (passes p (suc i) n) t) b m (omega arith))
-    (eq-or-lt_of_le h)
+passes p lo n = agree_below (λ (k : ℕ). p (lo + k)) (λ (k : ℕ). true) n
 
 abbrev same_range : Range → Range → Bool
 same_range r q = eqb r.low q.low && eqb r.high q.high
@@ -70,11 +59,6 @@ one-due (some r) (some q) t = ap some (one-row r q t)
 pub led : (due : Option (List Range)) (lo n : ℕ) → passes (λ (b : ℕ). same due (after_lead UTF8-char b)) lo n ≡ true
     → (b : ℕ) → lo ≤ b → b < lo + n → due ≡ after_lead UTF8-char b
 led due lo n t b h l =
-    one-due due (after_lead UTF8-char b) (passed (λ (k : ℕ). same due (after_lead UTF8-char k)) lo n t b h l)
-
--- of some bytes of the tail that are due, one is the next
-pub tails-more : (n : ℕ) → 0 < n → tails n ≡ UTF8-tail ∷ tails (n - 1)
-tails-more zero h = absurd (omega arith)
-tails-more (suc n) h =
-    let e : suc n - 1 ≡ n = omega arith in
-    rw e
+    let e : lo + (b - lo) ≡ b = omega arith in
+    let test = λ (k : ℕ). same due (after_lead UTF8-char (lo + k)) in
+    one-due due (after_lead UTF8-char b) (rw e at (agree_below_at test (λ (k : ℕ). true) n (b - lo) t (omega arith)))

@@ -1,10 +1,14 @@
 // The classes of bytes that RFC 3629's ranges tell apart, and what each may do in a text.
-ghost use Rattle.std.specs.Prelude.{◌≡◌};
+ghost use Rattle.std.specs.Prelude.{◌≡◌, map};
+ghost use Rattle.std.proofs.Math.Option.{some};
 ghost use Rattle.utf8.specs.Classes.{class_of};
 ghost use Rattle.utf8.specs.Due.{following, told_due};
-ghost use Rattle.utf8.specs.Utf8.{UTF8-char, after_lead, holds};
+ghost use Rattle.utf8.specs.Utf8.{UTF8-char, after_lead, holds, next};
 
-// A class goes by its first byte. This one is a character by itself.
+// A class goes by its first byte: a number and no enum, since `Classed`, the rule of the table, speaks of numbers.
+// C0 and C1, which would begin overlong forms, and F5 to FF, which would begin letters beyond U+10FFFF, are in no text.
+
+// This one is a character by itself.
 const ASCII: u8 = 0x00;
 
 // These follow another byte.
@@ -31,13 +35,8 @@ const FOUR_F1: u8 = 0xF1;
 
 const FOUR_F4: u8 = 0xF4;
 
-// These are in no text: C0 and C1 would begin overlong forms, F5 to FF letters beyond U+10FFFF.
-const OVERLONG: u8 = 0xC0;
-
-const BEYOND: u8 = 0xF5;
-
 // The class of each byte.
-pub const CLASSES: [u8; 256] = *b"\
+static CLASSES: [u8; 256] = *b"\
     \x00\x00\x00\x00\x00\x00\x00\x00\x00\x00\x00\x00\x00\x00\x00\x00\
     \x00\x00\x00\x00\x00\x00\x00\x00\x00\x00\x00\x00\x00\x00\x00\x00\
     \x00\x00\x00\x00\x00\x00\x00\x00\x00\x00\x00\x00\x00\x00\x00\x00\
@@ -55,6 +54,13 @@ pub const CLASSES: [u8; 256] = *b"\
     \xE0\xE1\xE1\xE1\xE1\xE1\xE1\xE1\xE1\xE1\xE1\xE1\xE1\xED\xEE\xEE\
     \xF0\xF1\xF1\xF1\xF4\xF5\xF5\xF5\xF5\xF5\xF5\xF5\xF5\xF5\xF5\xF5";
 
+// The class of one byte.
+fn class(b: u8) -> u8
+    ensures { result ≡ class_of b }
+{
+    CLASSES[b as usize]
+}
+
 // The bytes that may come next within a character.
 #[derive(Clone, Copy)]
 pub enum Follow {
@@ -70,63 +76,45 @@ pub enum Follow {
     NotHigh,
 }
 
-// What a text may go on with, once the first byte of a character is read.
-#[derive(Clone, Copy)]
-pub enum Due {
-    // Nothing makes it UTF-8 any more.
-    Never,
-    // The character is whole.
-    Character,
-    // A byte that may come next, and then so many of any that follow.
-    Bytes(Follow, u8),
-}
-
-// What a character's first byte asks for, by its class.
-pub fn lead(class: u8) -> Due
-    requires { class_of class ≡ class }
-    ensures { told_due result ≡ after_lead UTF8-char class }
-{
-    match class {
-        ASCII => Due::Character,
-        TWO => Due::Bytes(Follow::Any, 0),
-        THREE_E0 => Due::Bytes(Follow::High, 1),
-        THREE_E1 => Due::Bytes(Follow::Any, 1),
-        THREE_ED => Due::Bytes(Follow::NotHigh, 1),
-        THREE_EE => Due::Bytes(Follow::Any, 1),
-        FOUR_F0 => Due::Bytes(Follow::NotLow, 2),
-        FOUR_F1 => Due::Bytes(Follow::Any, 2),
-        FOUR_F4 => Due::Bytes(Follow::Low, 2),
-        _ => Due::Never,
+impl Follow {
+    #[tactic(auto, using(crate::proofs::Classed::allowed))]
+    fn allows(self, b: u8) -> bool
+        ensures { result ≡ holds (following self) b }
+    {
+        match self {
+            Follow::Any => matches!(class(b), LOW | MIDDLE | HIGH),
+            Follow::Low => class(b) == LOW,
+            Follow::High => class(b) == HIGH,
+            Follow::NotLow => matches!(class(b), MIDDLE | HIGH),
+            Follow::NotHigh => matches!(class(b), LOW | MIDDLE),
+        }
     }
 }
 
-// Whether a byte of this class may come next.
-pub fn follows(follow: Follow, class: u8) -> bool
-    requires { class_of class ≡ class }
-    ensures { result ≡ holds (following follow) class }
+// What a character asks for after its first byte, a range for each byte; none where no character begins with it.
+#[tactic(auto, using(crate::proofs::Classed::leading))]
+fn lead(b: u8) -> Option<&'static [Follow]>
+    ensures { told_due result ≡ after_lead UTF8-char b }
 {
-    match class {
-        LOW => match follow {
-            Follow::Any => true,
-            Follow::Low => true,
-            Follow::High => false,
-            Follow::NotLow => false,
-            Follow::NotHigh => true,
-        },
-        MIDDLE => match follow {
-            Follow::Any => true,
-            Follow::Low => false,
-            Follow::High => false,
-            Follow::NotLow => true,
-            Follow::NotHigh => true,
-        },
-        HIGH => match follow {
-            Follow::Any => true,
-            Follow::Low => false,
-            Follow::High => true,
-            Follow::NotLow => true,
-            Follow::NotHigh => false,
-        },
-        _ => false,
+    match class(b) {
+        ASCII => Some(&[]),
+        TWO => Some(&[Follow::Any]),
+        THREE_E0 => Some(&[Follow::High, Follow::Any]),
+        THREE_E1 | THREE_EE => Some(&[Follow::Any, Follow::Any]),
+        THREE_ED => Some(&[Follow::NotHigh, Follow::Any]),
+        FOUR_F0 => Some(&[Follow::NotLow, Follow::Any, Follow::Any]),
+        FOUR_F1 => Some(&[Follow::Any, Follow::Any, Follow::Any]),
+        FOUR_F4 => Some(&[Follow::Low, Follow::Any, Follow::Any]),
+        _ => None,
+    }
+}
+
+// What is due once a byte is read, where `due` was; none where nothing makes it UTF-8 any more.
+pub fn after<'a>(due: &'a [Follow], b: u8) -> Option<&'a [Follow]>
+    ensures { told_due result ≡ next (some (map following due.now)) b }
+{
+    match due {
+        [] => lead(b),
+        [follow, rest @ ..] => follow.allows(b).then_some(rest),
     }
 }

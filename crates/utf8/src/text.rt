@@ -1,80 +1,51 @@
-// A text as it is read: character by character, each byte by its class.
-ghost use Rattle.std.specs.Prelude.{◌≡◌, [], length};
+// A text as it is read: what is due tells whether each byte may come next.
+ghost use Rattle.std.specs.Prelude.{◌≡◌, [], cond, length, map};
 ghost use Rattle.std.proofs.Math.Option.{some};
+ghost use Rattle.utf8.specs.Due.{following};
 ghost use Rattle.utf8.specs.Reading.{Reading};
 ghost use Rattle.utf8.specs.Text.{before_zero, if_utf8};
-ghost use Rattle.utf8.specs.Utf8.{◌to◌, holds};
+ghost use Rattle.utf8.specs.Utf8.{complete};
 
-use crate::classes::{CLASSES, Due, Follow, follows, lead};
-
-// Whether a byte lies in a range.
-fn within(b: u8, low: u8, high: u8) -> bool
-    ensures { result ≡ holds (low to high) b }
-{
-    low <= b && b <= high
-}
+use crate::classes::{Follow, after};
 
 // The length of the text before the first zero, or 0 where it is no UTF-8.
+#[tactic(auto, using(crate::proofs::Reading::ascii_steps))]
 pub fn text_length(s: &[u8]) -> usize
     ensures { result ≡ length (if_utf8 (before_zero s.now)) }
 {
-    let end = s.len();
-    let mut i = 0;
-    // ASCII first: a call that reads the table of classes lays out its 256 bytes on the stack.
-    while i < end && within(s[i], 0x01, 0x7F) {
-        i += 1;
+    // Most texts are ASCII, which needs no look at classes.
+    for (i, b) in s.iter().enumerate() {
+        match *b {
+            0 => return i,
+            0x01..=0x7F => {}
+            _ => return length_by_class(s, i),
+        }
     }
-    if i == end {
-        return end;
-    }
-    if s[i] == 0 {
-        return i;
-    }
-    length_by_class(s, i)
+    s.len()
 }
 
 // The same where all before `from` is read, and a character begins there.
+#[tactic(auto, using(crate::proofs::Reading::rest_steps))]
 fn length_by_class(s: &[u8], from: usize) -> usize
     requires { Reading s.now (some []) from }
     ensures { result ≡ length (if_utf8 (before_zero s.now)) }
 {
-    let classes = CLASSES;
-    let end = s.len();
-    let mut i = from;
-    while i < end {
-        let b = s[i];
-        if b == 0 {
-            return i;
+    let mut due: &[Follow] = &[];
+    for (i, b) in s[from..].iter().enumerate() {
+        if *b == 0 {
+            return length_at(due, from + i);
         }
-        let first = classes[b as usize];
-        let due = lead(first);
-        i += 1;
-        match due {
-            Due::Never => {
-                return 0;
-            }
-            Due::Character => {}
-            Due::Bytes(second, rest) => {
-                let mut follow = second;
-                let mut more = rest;
-                loop {
-                    if i == end {
-                        return 0;
-                    }
-                    let b = s[i];
-                    let class = classes[b as usize];
-                    if !follows(follow, class) {
-                        return 0;
-                    }
-                    i += 1;
-                    if more == 0 {
-                        break;
-                    }
-                    more -= 1;
-                    follow = Follow::Any;
-                }
-            }
-        }
+        let Some(rest) = after(due, *b) else {
+            return 0;
+        };
+        due = rest;
     }
-    end
+    length_at(due, s.len())
+}
+
+// The length of a text that ends where this is due: 0 where a character is cut.
+fn length_at(due: &[Follow], end: usize) -> usize
+    ensures { result ≡ cond (complete (some (map following due.now))) end 0 }
+{
+    if due.is_empty() { end } else { 0 }
 }

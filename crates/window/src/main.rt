@@ -1,13 +1,10 @@
 // The pieces of a window. Standard input: a, b as u32, then an OMAP table, all little-endian.
 #![tactic(auto)]
 
-use streams::Taken;
-
 fn main(rt: HostRuntime) {
     // One byte more than the most that is taken, so that a longer input is seen.
     let mut input = [0u8; 65537];
-    let taken = streams::take(&rt, &mut input);
-    let Taken::Whole(n) = taken else {
+    let Ok(n) = streams::take(&rt, &mut input) else {
         return;
     };
     let mut out = [0u8; 147456];
