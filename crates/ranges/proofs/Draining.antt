@@ -51,18 +51,18 @@ not-refused : (f : Option ℕ) (c : Cursor) (n : ℕ) → none ≡ f → refused
 not-refused none c n e q = cc
 not-refused (some m) c n e q = cc
 
-pub starts : (present : Bool) (s : List ℕ) (a b n : ℕ) → none ≡ window_fault present s a b
-    → refused n ≡ start_spec present s a b → ⊥
+starts : (present : Bool) (s : List ℕ) (a b from to n : ℕ) → none ≡ window_fault present s a b
+    → refused n ≡ start_spec present s from to → ⊥
 unfolding window_fault start_spec
-starts true s a b n e q =
+starts true s a b from to n e q =
     let f : none ≡ omap_fault s = no-fault (omap_fault s) (sum_fault (window_pieces true s a b)) e in
-    not-refused (omap_fault s) (start_on (records s) a b) n f q
-starts false s a b n e q = cc
+    not-refused (omap_fault s) (start_on (records s) from to) n f q
+starts false s a b from to n e q = cc
 
-pub started : (present : Bool) (s : List ℕ) (a b : ℕ) (r : Result Cursor Refusal) → none ≡ window_fault present s a b
-    → told_value number r ≡ start_spec present s a b → IsOk r
-started present s a b (Ok c) e q = refl
-started present s a b (Err why) e q = absurd (starts present s a b (number why) e q)
+pub started : (present : Bool) (s : List ℕ) (a b from to : ℕ) (r : Result Cursor Refusal)
+    → none ≡ window_fault present s a b → told_value number r ≡ start_spec present s from to → IsOk r
+started present s a b from to (Ok c) e q = refl
+started present s a b from to (Err why) e q = absurd (starts present s a b from to (number why) e q)
 
 -- one that has room leaves its pieces as pairs
 pub drained-out : (present : Bool) (s : List ℕ) (a b : ℕ) (out : List ℕ) (l : List Piece) (n : ℕ)

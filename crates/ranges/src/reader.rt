@@ -7,7 +7,6 @@ ghost use Rattle.omap.specs.Step.{told_step, step_spec};
 
 use omap::cursor::{Cursor, Step};
 use omap::fitting::Fitting;
-use omap::piece::Range;
 use omap::windows::WindowRefusal;
 
 #[derive(Clone, Copy)]
@@ -58,9 +57,9 @@ pub fn drain(table: Option<&[u8]>, a: u32, b: u32, out: &mut [u32]) -> Result<us
     let mut reader = RangeReader::new(table, cursor);
     for entry in 0..window.count {
         let step = reader.next();
-        let Range { start, end } = step.answer.unwrap().unwrap();
-        out[2 * entry] = start;
-        out[2 * entry + 1] = end;
+        let range = step.answer.unwrap().unwrap();
+        out[2 * entry] = range.start;
+        out[2 * entry + 1] = range.end;
         reader = reader.moved(step.cursor);
     }
     Ok(window.count)

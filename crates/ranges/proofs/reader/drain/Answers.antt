@@ -9,8 +9,7 @@ use Rattle.ranges.proofs.reader.drain.Goals as goal
 
 pub unwrap-cursor-requires : goal.unwrap-cursor-requires
 unwrap-cursor-requires c =
-    let a = c.args in
-    started (is_some a.table) (bytes_of a.table) a.a a.b c.start.result c.in_ok-window.ensures.0 c.start.ensures
+    started (is_some c.args.table) (bytes_of c.args.table) c.args.a c.args.b _ _ c.start.result c.in_ok-window.ensures.0 c.start.ensures
 
 pub loop-entry-init : goal.loop-entry-init
 loop-entry-init c =
@@ -25,11 +24,11 @@ loop-entry-init c =
 pub unwrap-requires : goal.unwrap-requires
 unwrap-requires c = is-ok c.loop-entry.invariant (omega arith) c.next-step.result c.next-step.ensures
 
-pub unwrap-start-requires : goal.unwrap-start-requires
-unwrap-start-requires c =
+pub unwrap-range-requires : goal.unwrap-range-requires
+unwrap-range-requires c =
     is-there c.loop-entry.invariant (omega arith) c.next-step.result c.next-step.ensures c.unwrap.result c.unwrap.ensures
 
 pub loop-entry-preserved : goal.loop-entry-preserved
 loop-entry-preserved c =
     drains-more c.loop-entry.invariant (omega arith) c.next-step.result c.next-step.ensures c.unwrap.result c.unwrap.ensures
-    c.unwrap-start.result c.unwrap-start.ensures c.moved-reader.result c.moved-reader.ensures.0 c.moved-reader.ensures.1
+    c.unwrap-range.result c.unwrap-range.ensures c.moved-reader.result c.moved-reader.ensures.0 c.moved-reader.ensures.1
