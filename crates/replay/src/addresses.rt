@@ -41,7 +41,7 @@ impl Located for ValueAnswer {
     }
 }
 
-// The four tables of a map, as the face takes them: each behind its mark.
+// The four tables of a map, as the face takes them by C's interface: each behind its mark.
 type Tables<'s> = (
     bool,
     &'s [u8],
@@ -55,7 +55,7 @@ type Tables<'s> = (
 
 // What a case of a conversion asks. The extent counts where an offset in a section comes out, the
 // section where one goes in, and the number is an offset or an address.
-#[derive(Clone, Copy, Debug)]
+#[derive(Drop)]
 struct Asked<'s> {
     tables: Tables<'s>,
     by_raw_size: bool,

@@ -1,11 +1,11 @@
 // Reading a case: what is asked, and then the answer in it beside ours.
 
 // Told of a case that breaks the format.
-#[derive(Clone, Copy, Debug, PartialEq, Eq)]
+#[derive(Clone, Copy, Debug)]
 pub struct Broken;
 
 // What is left of a case, and whether all of its answer that was read is ours.
-#[derive(Debug, Drop)]
+#[derive(Drop)]
 pub struct Case<'s> {
     rest: &'s [u8],
     agrees: bool,
@@ -113,7 +113,7 @@ impl Number for usize {
     }
 }
 
-// A table as the face takes it: whether it is present, and its bytes.
+// A table as the face takes it, by C's interface: whether it is present, and its bytes.
 pub(crate) fn marked(table: Option<&[u8]>) -> (bool, &[u8]) {
     (table.is_some(), table.unwrap_or(&[]))
 }

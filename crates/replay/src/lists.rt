@@ -1,4 +1,5 @@
-// The lent list of records.
+// The lent list of records. As pairs, they are what a window's output holds: `pairs-of-list` of
+// proofs/Listed.antt.
 use crate::case::{Broken, Case, marked};
 use crate::windows::{MARK, MOST, compare_pieces};
 use gillacorn::lists::gillacorn_list;

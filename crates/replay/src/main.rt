@@ -26,7 +26,7 @@ use std::io::Read;
 // A file has fewer bytes than this.
 const MOST: usize = 1048576;
 
-// Each answer is the Rust's, the rules', or a count's: which of them is not told here.
+// A case begins with who judged its answer: pdb, the rules, or a count. Nothing here depends on which.
 const JUDGES: u8 = 3;
 
 // This many differing cases are shown.
@@ -78,10 +78,10 @@ fn main(rt: HostRuntime) -> io::Result<()> {
     let Ok(source) = File::open(&rt, "replay.bin") else {
         return println!(rt; "no file replay.bin");
     };
-    // Not on the heap: nothing here rests on C's functions for memory.
-    let mut room = [0; MOST];
-    let length = io::copy(&mut source.take(MOST as u64), &mut room.as_mut_slice())? as usize;
-    match room.get(..length) {
+    // Fixed memory: with a Vec the check would rest on C's functions for the heap too.
+    let mut buffer = [0; MOST];
+    let length = io::copy(&mut source.take(MOST as u64), &mut buffer.as_mut_slice())? as usize;
+    match buffer.get(..length) {
         Some(file) if length < MOST => replay(&rt, file),
         _ => println!(rt; "the file is too large"),
     }

@@ -3,7 +3,7 @@ use crate::operation::Operation;
 use std::io;
 
 // How many cases were asked, and in how many of them our answer is the one in the case.
-#[derive(Clone, Copy, Debug, Default, PartialEq, Eq)]
+#[derive(Clone, Copy, Default)]
 struct Tally {
     cases: u64,
     agreed: u64,
@@ -17,7 +17,7 @@ impl Tally {
 }
 
 // The tally of each operation, at its number less one, and that of all.
-#[derive(Debug, Drop)]
+#[derive(Drop)]
 pub struct Report {
     each: [Tally; Operation::COUNT],
     all: Tally,
