@@ -8,6 +8,7 @@ use crate::expected::is;
 use check::expect;
 use gillacorn::sections::{gillacorn_section_offset_by, gillacorn_virtual_address};
 
+// The extent is a flag, as C tells it to the face.
 const BY_MEMORY_SIZE: bool = false;
 
 const BY_RAW_SIZE: bool = true;
@@ -34,6 +35,7 @@ fn lies(table: &[u8], section: u16, offset: u32, code: u32, value: u32)
     );
 }
 
+#[tactic(auto, unfolding(crate::proofs::Opened::addresses))]
 pub(crate) fn all() {
     // 1000 size 200, 2000 size 400
     let table = b"\0\0\0\0\0\0\0\0\0\0\0\0\x00\x10\0\0\x00\x02\0\0\

@@ -46,16 +46,6 @@ fn refuses(file: &[u8], code: u32)
     expect(told.code == code);
 }
 
-fn same(a: &[u8; 60], b: &[u8; 60])
-    requires { a.now ≡ b.now }
-{
-    let mut i = 0;
-    while i < 60 {
-        expect(a[i] == b[i]);
-        i += 1;
-    }
-}
-
 // The bundle of these two parts, written into sixty bytes.
 fn writes(part: &[u8], code: u32, bytes: usize, left: &[u8; 60])
     requires { (bytes_answer (write_spec (lent_parts false [] false [] true part.now false [] true [] false []) 60)
@@ -69,9 +59,10 @@ fn writes(part: &[u8], code: u32, bytes: usize, left: &[u8; 60])
     );
     expect(told.code == code);
     expect(told.bytes == bytes);
-    same(&out, left);
+    expect(out == *left);
 }
 
+#[tactic(auto, unfolding(crate::proofs::Opened::bundles))]
 pub(crate) fn all() {
     let bundle = BUNDLE;
     reads(&bundle[..59], 0, 3, 3, 0);

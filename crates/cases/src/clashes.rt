@@ -29,8 +29,7 @@ fn goes_back(table: &[u8], a: u32, b: u32, t: u32, sources: u32, first: u32, sec
 }
 
 pub(crate) fn all() {
-    let table = T;
-    let t: &[u8] = &table;
+    let t: &[u8] = &T;
     clashes(t, 0x800, 0x1400, 0, 0x1080, 0x1300);
     clashes(t, 0x1000, 0x1300, 255, 0, 0);
     goes_back(t, 0x800, 0x1400, 0x50A0, 2, 0x10A0, 0x1320);

@@ -9,7 +9,8 @@ use check::expect;
 use framedata::FrameCursor;
 use gillacorn::frames::{gillacorn_frame_next, gillacorn_frames_at, gillacorn_old_frame};
 
-// The step from the indexes i, j: the code, the frame's type and start, and the next indexes.
+// The step from the indexes i, j: the code, the frame's type and start, and the next indexes. They are
+// no cursors here, since the case that is required names each number.
 fn yields(
     old: &[u8],
     new: &[u8],
@@ -48,6 +49,7 @@ fn begins(old: &[u8], new: &[u8], address: u32, i: usize, j: usize)
     expect(cursor.new_index == j);
 }
 
+#[tactic(auto, unfolding(crate::proofs::Opened::frames))]
 pub(crate) fn merged() {
     // new at 100, 200, old at 100, 180: new 100, old 180, new 200, and the end
     let old = b"\x00\x01\0\0\0\0\0\0\0\0\0\0\0\0\0\0\x80\x01\0\0\0\0\0\0\0\0\0\0\0\0\0\0";
@@ -66,6 +68,7 @@ pub(crate) fn merged() {
     yields(old, new, 1, 2, 255, 0, 0, 1, 2);
 }
 
+#[tactic(auto, unfolding(crate::proofs::Opened::frames))]
 pub(crate) fn begun() {
     // 100 size 40, then 200, as old frames and as new ones: at 150 with 200, at 13F with 100
     let none = b"";
@@ -83,6 +86,7 @@ pub(crate) fn begun() {
 }
 
 // Attributes C305: Standard, prolog 5, saved 12, SEH, no base pointer.
+#[tactic(auto, unfolding(crate::proofs::Opened::frames))]
 pub(crate) fn attributes() {
     let told = gillacorn_old_frame(b"\0\0\0\0\0\0\0\0\0\0\0\0\0\0\x05\xC3", 0);
     let frame = told.frame;

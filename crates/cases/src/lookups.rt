@@ -31,9 +31,9 @@ pub(crate) fn all() {
     quick();
 }
 
+#[tactic(auto, unfolding(crate::proofs::Opened::lookups))]
 fn full() {
-    let table = T;
-    let t: &[u8] = &table;
+    let t: &[u8] = &T;
     translates(t, 0xFFF, 255, 0);
     translates(t, 0x1000, 0, 0x5000);
     translates(t, 0x10FF, 0, 0x50FF);
@@ -46,9 +46,9 @@ fn full() {
     translates(high, 0x20, 4, 0);
 }
 
+#[tactic(auto, unfolding(crate::proofs::Opened::lookups))]
 fn quick() {
-    let table = T;
-    let t: &[u8] = &table;
+    let t: &[u8] = &T;
     found(t, 0xFFF, 255, 0, 3);
     found(t, 0x10FF, 0, 0x50FF, 3);
     found(t, 0x1250, 0, 0x4050, 2);

@@ -18,16 +18,6 @@ pub(crate) fn addresses() {
     expect(p[1] - p[0] + (p[3] - p[2]) + (p[5] - p[4]) == 0x300);
 }
 
-fn same(a: &[u32; 7], b: &[u32; 7])
-    requires { a.now ≡ b.now }
-{
-    let mut i = 0;
-    while i < 7 {
-        expect(a[i] == b[i]);
-        i += 1;
-    }
-}
-
 // The window a..b of a present table: the answer, and what stands in the output then.
 fn shows(table: &[u8], a: u32, b: u32, code: u32, pieces: usize, left: &[u32; 7])
     requires { (pieces_answer (window_spec true table.now a b 3) ≡ record { code = code; pieces = pieces })
@@ -37,14 +27,13 @@ fn shows(table: &[u8], a: u32, b: u32, code: u32, pieces: usize, left: &[u32; 7]
     let told = gillacorn_window(true, table, a, b, &mut out);
     expect(told.code == code);
     expect(told.pieces == pieces);
-    same(&out, left);
+    expect(out == *left);
 }
 
+#[tactic(auto, unfolding(crate::proofs::Opened::windows))]
 pub(crate) fn all() {
-    let table = T;
-    let t: &[u8] = &table;
-    let three = THREE;
-    shows(t, 0x800, 0x1400, 0, 3, &three);
+    let t: &[u8] = &T;
+    shows(t, 0x800, 0x1400, 0, 3, &THREE);
     // 10→FFFFFFF0
     let high = b"\x10\0\0\0\xF0\xFF\xFF\xFF";
     let none = [9, 9, 9, 9, 9, 9, 9];

@@ -1,74 +1,52 @@
-// Frames: operations 15 to 19.
-use crate::comparison::{Comparison, bits};
-use crate::input::{after, bytes, present_at, table_at, u32_at};
+// Frames.
+use crate::case::{Broken, Case, bits, marked};
 use framedata::FrameCursor;
 use gillacorn::frames::{
-    Frame, gillacorn_frame_next, gillacorn_frames_at, gillacorn_frames_empty, gillacorn_new_frame,
-    gillacorn_old_frame,
+    Frame, FrameAnswer, gillacorn_frame_next, gillacorn_frames_at, gillacorn_frames_empty,
 };
 
-pub(crate) fn old_frame(s: &[u8]) -> Comparison {
-    let table = present_at(s, 1);
-    let at = table.to;
-    let ours = gillacorn_old_frame(bytes(s, table), u32_at(s, at) as usize);
-    let told = crate::comparison::code(s, after(at, 4), ours.code);
-    frame_told(s, told, ours.frame)
+// The record at a place of a table, by the face's function for its kind.
+pub(crate) fn frame<F>(case: &mut Case<'_>, frame_at: F) -> Result<(), Broken>
+where
+    F: FnOnce(&[u8], usize) -> FrameAnswer,
+    requires { F.IsAlwaysCallable frame_at }
+{
+    let table = case.present_table()?;
+    let ours = frame_at(table, case.number()?);
+    case.compare_byte(ours.code)?;
+    compare_frame(case, ours.frame)
 }
 
-pub(crate) fn new_frame(s: &[u8]) -> Comparison {
-    let table = present_at(s, 1);
-    let at = table.to;
-    let ours = gillacorn_new_frame(bytes(s, table), u32_at(s, at) as usize);
-    let told = crate::comparison::code(s, after(at, 4), ours.code);
-    frame_told(s, told, ours.frame)
-}
-
-pub(crate) fn next(s: &[u8]) -> Comparison {
-    let old = table_at(s, 1);
-    let new = table_at(s, old.to);
-    let at = new.to;
+pub(crate) fn next(case: &mut Case<'_>) -> Result<(), Broken> {
+    let (has_old, old) = marked(case.table()?);
+    let (has_new, new) = marked(case.table()?);
     let cursor = FrameCursor {
-        old_index: u32_at(s, at) as usize,
-        new_index: u32_at(s, after(at, 4)) as usize,
+        old_index: case.number()?,
+        new_index: case.number()?,
     };
-    let ours = gillacorn_frame_next(
-        cursor,
-        old.present,
-        bytes(s, old),
-        new.present,
-        bytes(s, new),
-    );
-    let told = crate::comparison::code(s, after(at, 8), ours.code);
-    let told = frame_told(s, told, ours.frame);
-    told.place(s, ours.cursor.old_index)
-        .place(s, ours.cursor.new_index)
+    let ours = gillacorn_frame_next(cursor, has_old, old, has_new, new);
+    case.compare_byte(ours.code)?;
+    compare_frame(case, ours.frame)?;
+    case.compare_all(&[ours.cursor.old_index, ours.cursor.new_index])
 }
 
-pub(crate) fn from_address(s: &[u8]) -> Comparison {
-    let old = table_at(s, 1);
-    let new = table_at(s, old.to);
-    let at = new.to;
-    let address = u32_at(s, at);
-    let ours = gillacorn_frames_at(
-        address,
-        old.present,
-        bytes(s, old),
-        new.present,
-        bytes(s, new),
-    );
-    let told = crate::comparison::code(s, after(at, 4), ours.code);
-    told.place(s, ours.cursor.old_index)
-        .place(s, ours.cursor.new_index)
+pub(crate) fn from_address(case: &mut Case<'_>) -> Result<(), Broken> {
+    let (has_old, old) = marked(case.table()?);
+    let (has_new, new) = marked(case.table()?);
+    let ours = gillacorn_frames_at(case.number()?, has_old, old, has_new, new);
+    case.compare_byte(ours.code)?;
+    case.compare_all(&[ours.cursor.old_index, ours.cursor.new_index])
 }
 
-pub(crate) fn empty(s: &[u8]) -> Comparison {
-    let old = table_at(s, 1);
-    let new = table_at(s, old.to);
-    let ours = gillacorn_frames_empty(old.present, bytes(s, old), new.present, bytes(s, new));
-    crate::comparison::code(s, new.to, ours.code).u32(s, ours.value)
+pub(crate) fn empty(case: &mut Case<'_>) -> Result<(), Broken> {
+    let (has_old, old) = marked(case.table()?);
+    let (has_new, new) = marked(case.table()?);
+    let ours = gillacorn_frames_empty(has_old, old, has_new, new);
+    case.compare_byte(ours.code)?;
+    case.compare(ours.value)
 }
 
-fn frame_told(s: &[u8], told: Comparison, ours: Frame) -> Comparison {
+fn compare_frame(case: &mut Case<'_>, ours: Frame) -> Result<(), Broken> {
     let marks = [
         ours.has_structured_eh,
         ours.has_cpp_eh,
@@ -77,12 +55,14 @@ fn frame_told(s: &[u8], told: Comparison, ours: Frame) -> Comparison {
         ours.has_max_stack_size,
         ours.has_program,
     ];
-    let told = told
-        .small(s, ours.ty)
-        .u32(s, ours.code_start)
-        .u32(s, ours.code_size);
-    let told = told.u32(s, ours.locals_size).u32(s, ours.params_size);
-    let told = told.u16(s, ours.prolog_size).u16(s, ours.saved_regs_size);
-    let told = told.small(s, bits(&marks));
-    told.u32(s, ours.max_stack_size).u32(s, ours.program)
+    case.compare_byte(ours.ty)?;
+    case.compare_all(&[
+        ours.code_start,
+        ours.code_size,
+        ours.locals_size,
+        ours.params_size,
+    ])?;
+    case.compare_all(&[ours.prolog_size, ours.saved_regs_size])?;
+    case.compare_byte(bits(&marks))?;
+    case.compare_all(&[ours.max_stack_size, ours.program])
 }

@@ -1,50 +1,35 @@
-// Section headers: operations 1 to 4.
-use crate::comparison::{Comparison, bits};
-use crate::input::{after, bytes, present_at, u16_at, u32_at};
+// Section headers.
+use crate::case::{Broken, Case, bits};
 use gillacorn::headers::{
     gillacorn_alignment, gillacorn_characteristics, gillacorn_header, gillacorn_name_length,
 };
 
-pub(crate) fn header(s: &[u8]) -> Comparison {
-    let table = present_at(s, 1);
-    let at = table.to;
-    let place = u32_at(s, at) as usize;
-    let ours = gillacorn_header(bytes(s, table), place);
+pub(crate) fn header(case: &mut Case<'_>) -> Result<(), Broken> {
+    let table = case.present_table()?;
+    let ours = gillacorn_header(table, case.number()?);
     let header = ours.header;
-    let name = header.name;
-    let told = crate::comparison::code(s, after(at, 4), ours.code);
-    let told = told
-        .u8(s, name[0])
-        .u8(s, name[1])
-        .u8(s, name[2])
-        .u8(s, name[3]);
-    let told = told
-        .u8(s, name[4])
-        .u8(s, name[5])
-        .u8(s, name[6])
-        .u8(s, name[7]);
-    let told = told
-        .u32(s, header.virtual_size)
-        .u32(s, header.virtual_address);
-    let told = told
-        .u32(s, header.size_of_raw_data)
-        .u32(s, header.pointer_to_raw_data);
-    let told = told.u32(s, header.pointer_to_relocations);
-    let told = told.u32(s, header.pointer_to_line_numbers);
-    let told = told.u16(s, header.number_of_relocations);
-    let told = told.u16(s, header.number_of_line_numbers);
-    told.u32(s, header.characteristics.0)
+    case.compare_byte(ours.code)?;
+    case.compare_all(&header.name)?;
+    case.compare_all(&[
+        header.virtual_size,
+        header.virtual_address,
+        header.size_of_raw_data,
+        header.pointer_to_raw_data,
+        header.pointer_to_relocations,
+        header.pointer_to_line_numbers,
+    ])?;
+    case.compare_all(&[header.number_of_relocations, header.number_of_line_numbers])?;
+    case.compare(header.characteristics.0)
 }
 
-pub(crate) fn name(s: &[u8]) -> Comparison {
-    let table = present_at(s, 1);
-    let at = table.to;
-    let ours = gillacorn_name_length(bytes(s, table), u16_at(s, at));
-    crate::comparison::from(after(at, 2)).length(s, ours)
+pub(crate) fn name(case: &mut Case<'_>) -> Result<(), Broken> {
+    let table = case.present_table()?;
+    let ours = gillacorn_name_length(table, case.number()?);
+    case.compare_byte(ours)
 }
 
-pub(crate) fn flags(s: &[u8]) -> Comparison {
-    let ours = gillacorn_characteristics(u32_at(s, 1));
+pub(crate) fn flags(case: &mut Case<'_>) -> Result<(), Broken> {
+    let ours = gillacorn_characteristics(case.number()?);
     let marks = [
         ours.executable,
         ours.initialized_data,
@@ -67,10 +52,11 @@ pub(crate) fn flags(s: &[u8]) -> Comparison {
         ours.read,
         ours.write,
     ];
-    crate::comparison::from(5).u32(s, bits(&marks))
+    case.compare(bits(&marks))
 }
 
-pub(crate) fn alignment(s: &[u8]) -> Comparison {
-    let ours = gillacorn_alignment(u32_at(s, 1));
-    crate::comparison::code(s, 5, ours.code).u32(s, ours.value)
+pub(crate) fn alignment(case: &mut Case<'_>) -> Result<(), Broken> {
+    let ours = gillacorn_alignment(case.number()?);
+    case.compare_byte(ours.code)?;
+    case.compare(ours.value)
 }

@@ -1,28 +1,28 @@
-// The lent list of records: operation 10. A function that lends memory of records is proved by hand,
-// so the reader's `drain` answers here, into two places for each record. By their contracts it leaves
-// there what `gillacorn_list` leaves in the records: `pairs-of-list` of proofs/Listed.antt.
-use crate::comparison::Comparison;
-use crate::input::{Table, after, bytes, table_at, u16_at, u32_at};
-use crate::windows::{MOST, mark, window_told};
-use gillacorn::windows::pieces_answer;
-use ranges::reader::drain;
+// The lent list of records. As pairs, they are what a window's output holds: `pairs-of-list` of
+// proofs/Listed.antt.
+use crate::case::{Broken, Case, marked};
+use crate::windows::{MARK, MOST, compare_pieces};
+use gillacorn::lists::gillacorn_list;
+use ranges::Piece;
+use std::array;
 
-pub(crate) fn list(s: &[u8]) -> Comparison {
-    let table = table_at(s, 1);
-    let records = u16_at(s, after(table.to, 8)) as usize;
-    if MOST / 2 < records {
-        return crate::comparison::broken();
+pub(crate) fn list(case: &mut Case<'_>) -> Result<(), Broken> {
+    let (present, table) = marked(case.table()?);
+    let a = case.number()?;
+    let b = case.number()?;
+    let records: u16 = case.number()?;
+    let mut room: [Piece; MOST / 2] = array::from_fn(|record| {
+        let start = MARK + 2 * record as u32;
+        Piece {
+            start,
+            end: start + 1,
+        }
+    });
+    let list = room.get_mut(..usize::from(records)).ok_or(Broken)?;
+    let ours = gillacorn_list(present, table, a, b, list);
+    compare_pieces(case, ours)?;
+    for piece in list.iter() {
+        case.compare_all(&[piece.start, piece.end])?;
     }
-    let mut out = [0u32; MOST];
-    let places = 2 * records;
-    drained(s, table, &mut out[..places])
-}
-
-fn drained(s: &[u8], table: Table, out: &mut [u32]) -> Comparison {
-    let at = table.to;
-    let a = u32_at(s, at);
-    let b = u32_at(s, after(at, 4));
-    mark(out);
-    let ours = pieces_answer(drain(table.present, bytes(s, table), a, b, out));
-    window_told(s, at, ours, out)
+    Ok(())
 }

@@ -4,128 +4,85 @@
 #![tactic(auto)]
 
 mod addresses;
+mod case;
 mod clashes;
-mod comparison;
 mod frames;
 mod headers;
-mod input;
 mod lists;
 mod lookups;
-mod names;
+mod operation;
 mod report;
 mod windows;
 
-ghost use Rattle.std.specs.Prelude.{◌≡◌, ◌≤◌, length, IfOk};
+ghost use Rattle.std.specs.Prelude.{◌<◌, length, OnOk};
 
-use comparison::Comparison;
-use report::COUNTS;
+use case::{Broken, Case};
+use operation::Operation;
+use report::Report;
 use std::fs::File;
+use std::io;
 use std::io::Read;
 
 // A file has fewer bytes than this.
 const MOST: usize = 1048576;
 
-fn buffer() -> [u8; MOST]
-    ensures { 1048576 ≡ length result }
+// A case begins with who judged its answer: pdb, the rules, or a count. Nothing here depends on which.
+const JUDGES: u8 = 3;
+
+// This many differing cases are shown.
+const SHOWN: u64 = 10;
+
+// Takes the first case off a file: its operation, and whether our answer is the one in it.
+fn next_case(file: &mut &[u8]) -> Result<(Operation, bool), Broken>
+    ensures { OnOk result (length file.new.now < length file.old.now) }
 {
-    [0; MOST]
-}
-
-// Our answer to the case `s` of an operation, compared.
-fn compared(operation: u8, s: &[u8]) -> Comparison {
-    if 2 < input::u8_at(s, 0) {
-        return comparison::broken();
-    }
-    match operation {
-        1 => headers::header(s),
-        2 => headers::name(s),
-        3 => headers::flags(s),
-        4 => headers::alignment(s),
-        5 => lookups::record_at(s),
-        6 => lookups::lookup(s),
-        7 => windows::window(s),
-        8 => windows::cursor_start(s),
-        9 => windows::cursor_step(s),
-        10 => lists::list(s),
-        11 => clashes::clash(s),
-        12 => clashes::way_back(s),
-        13 => addresses::section_offset(s),
-        14 => addresses::virtual_address(s),
-        15 => frames::old_frame(s),
-        16 => frames::new_frame(s),
-        17 => frames::next(s),
-        18 => frames::from_address(s),
-        19 => frames::empty(s),
-        20..=31 => addresses::conversion(s, operation),
-        32 => lookups::quick_lookup(s),
-        _ => comparison::broken(),
-    }
-}
-
-// Replays the cases of a file, and counts them and those in which we agree, by operation; place 0
-// counts all. Gives the place of the first case that breaks the format, or the file's length.
-fn replay(file: &[u8], cases: &mut [u64; COUNTS], agreed: &mut [u64; COUNTS]) -> usize {
-    let mut at = 0;
-    while at < file.len() {
-        let left = file.len() - at;
-        if left < 3 {
-            return at;
-        }
-        let from = at + 3;
-        let length = input::u16_at(file, at + 1) as usize;
-        if left - 3 < length {
-            return at;
-        }
-        let to = from + length;
-        let operation = file[at];
-        let told = compared(operation, &file[from..to]);
-        if told.at != length {
-            return at;
-        }
-        report::counted(cases, operation);
-        if told.same {
-            report::counted(agreed, operation);
-        } else {
-            report::differing(cases, agreed, at, operation);
-        }
-        at = to;
-    }
-    file.len()
-}
-
-// Reads a file until it ends or buf is full, and gives the number of bytes.
-fn fill(source: &mut File, buf: &mut [u8]) -> std::io::Result<usize>
-    ensures { IfOk result (λ n. n ≤ length buf.new) }
-{
-    let mut done = 0;
-    while done < buf.len() {
-        let more = source.read(&mut buf[done..])?;
-        if more == 0 {
-            break;
-        }
-        done += more;
-    }
-    Ok(done)
-}
-
-fn main(rt: HostRuntime) -> std::io::Result<()> {
-    let Ok(mut source) = File::open(&rt, "replay.bin") else {
-        io::write_all(1, b"no file replay.bin\n");
-        return Ok(());
+    let [number, low, high, rest @ ..] = *file else {
+        return Err(Broken);
     };
-    let mut file = buffer();
-    let n = fill(&mut source, &mut file)?;
-    if n == MOST {
-        io::write_all(1, b"the file is too large\n");
-        return Ok(());
+    let length = u16::from_le_bytes([*low, *high]);
+    let (bytes, rest) = rest.split_at_checked(usize::from(length)).ok_or(Broken)?;
+    *file = rest;
+    let operation = Operation::try_from(*number)?;
+    Ok((operation, compared(operation, bytes)?))
+}
+
+// Whether our answer to a case is the one in it.
+fn compared(operation: Operation, bytes: &[u8]) -> Result<bool, Broken> {
+    let mut case = Case::new(bytes);
+    let judge: u8 = case.number()?;
+    if judge >= JUDGES {
+        return Err(Broken);
     }
-    let mut cases = [0u64; COUNTS];
-    let mut agreed = [0u64; COUNTS];
-    let end = replay(&file[..n], &mut cases, &mut agreed);
-    if end < n {
-        report::bad(end);
-        return Ok(());
+    operation.ask(&mut case)?;
+    case.end()
+}
+
+// Replays the cases of a file, up to the first one that breaks the format.
+fn replay(rt: &impl Print, file: &[u8]) -> io::Result<()> {
+    let mut report = Report::new();
+    let mut rest = file;
+    while !rest.is_empty() {
+        let at = file.len() - rest.len();
+        let Ok((operation, agrees)) = next_case(&mut rest) else {
+            return println!(rt; "bad case at {at}");
+        };
+        report.count(operation, agrees);
+        if !agrees && report.differing() <= SHOWN {
+            println!(rt; "differs at {at}: {operation}")?;
+        }
     }
-    report::all(&cases, &agreed);
-    Ok(())
+    report.print(rt)
+}
+
+fn main(rt: HostRuntime) -> io::Result<()> {
+    let Ok(source) = File::open(&rt, "replay.bin") else {
+        return println!(rt; "no file replay.bin");
+    };
+    // Fixed memory: with a Vec the check would rest on C's functions for the heap too.
+    let mut buffer = [0; MOST];
+    let length = io::copy(&mut source.take(MOST as u64), &mut buffer.as_mut_slice())? as usize;
+    match buffer.get(..length) {
+        Some(file) if length < MOST => replay(&rt, file),
+        _ => println!(rt; "the file is too large"),
+    }
 }

@@ -1,89 +1,58 @@
-// Windows and cursors: operations 7 to 9.
-use crate::comparison::Comparison;
-use crate::input::{Table, after, bytes, table_at, u16_at, u32_at};
+// Windows, and cursors over them.
+use crate::case::{Broken, Case, marked};
 use gillacorn::windows::{
     PiecesAnswer, gillacorn_cursor_start, gillacorn_cursor_step, gillacorn_window,
 };
 use omap::cursor::Cursor;
+use std::array;
 
 // The places that an output of a case has at most.
 pub const MOST: usize = 128;
 
-pub(crate) fn window(s: &[u8]) -> Comparison {
-    let table = table_at(s, 1);
-    let places = u16_at(s, after(table.to, 8)) as usize;
-    if MOST < places {
-        return crate::comparison::broken();
-    }
-    let mut out = [0u32; MOST];
-    windowed(s, table, &mut out[..places])
+// What stands in the first place of an output at entry; each further place has one more.
+pub const MARK: u32 = 0xA5A5A500;
+
+pub(crate) fn window(case: &mut Case<'_>) -> Result<(), Broken> {
+    let (present, table) = marked(case.table()?);
+    let a = case.number()?;
+    let b = case.number()?;
+    let places: u16 = case.number()?;
+    let mut room: [u32; MOST] = array::from_fn(|place| MARK + place as u32);
+    let out = room.get_mut(..usize::from(places)).ok_or(Broken)?;
+    let ours = gillacorn_window(present, table, a, b, out);
+    compare_pieces(case, ours)?;
+    case.compare_all(out)
 }
 
-fn windowed(s: &[u8], table: Table, out: &mut [u32]) -> Comparison {
-    let at = table.to;
-    let a = u32_at(s, at);
-    let b = u32_at(s, after(at, 4));
-    mark(out);
-    let ours = gillacorn_window(table.present, bytes(s, table), a, b, out);
-    window_told(s, at, ours, out)
+// What is answered about a window, before the output at exit.
+pub(crate) fn compare_pieces(case: &mut Case<'_>, ours: PiecesAnswer) -> Result<(), Broken> {
+    case.compare_byte(ours.code)?;
+    case.compare(ours.pieces)
 }
 
-// The answer about the window that is asked at `at`, and the output at exit.
-pub(crate) fn window_told(s: &[u8], at: usize, ours: PiecesAnswer, out: &[u32]) -> Comparison {
-    let told = crate::comparison::code(s, after(at, 10), ours.code);
-    written(s, told.place(s, ours.pieces), out)
+pub(crate) fn cursor_start(case: &mut Case<'_>) -> Result<(), Broken> {
+    let (present, table) = marked(case.table()?);
+    let ours = gillacorn_cursor_start(present, table, case.number()?, case.number()?);
+    case.compare_byte(ours.code)?;
+    compare_cursor(case, ours.cursor)
 }
 
-// What stands in an output at entry: A5A5A500h and the place.
-pub(crate) fn mark(out: &mut [u32]) {
-    let mut value = 0xA5A5A500u32;
-    let mut i = 0;
-    while i < out.len() {
-        out[i] = value;
-        value = std::num::wrapping_add_u32(value, 1);
-        i += 1;
-    }
-}
-
-// What stands in an output at exit.
-fn written(s: &[u8], told: Comparison, out: &[u32]) -> Comparison {
-    let mut told = told;
-    let mut i = 0;
-    while i < out.len() {
-        told = told.u32(s, out[i]);
-        i += 1;
-    }
-    told
-}
-
-pub(crate) fn cursor_start(s: &[u8]) -> Comparison {
-    let table = table_at(s, 1);
-    let at = table.to;
-    let b = u32_at(s, after(at, 4));
-    let ours = gillacorn_cursor_start(table.present, bytes(s, table), u32_at(s, at), b);
-    let told = crate::comparison::code(s, after(at, 8), ours.code);
-    cursor_told(s, told, ours.cursor)
-}
-
-pub(crate) fn cursor_step(s: &[u8]) -> Comparison {
-    let table = table_at(s, 1);
-    let at = table.to;
+pub(crate) fn cursor_step(case: &mut Case<'_>) -> Result<(), Broken> {
+    let (present, table) = marked(case.table()?);
     let cursor = Cursor {
-        address: u32_at(s, at),
-        end: u32_at(s, after(at, 4)),
-        source: u32_at(s, after(at, 8)),
-        target: u32_at(s, after(at, 12)),
-        place: u32_at(s, after(at, 16)) as usize,
+        address: case.number()?,
+        end: case.number()?,
+        source: case.number()?,
+        target: case.number()?,
+        place: case.number()?,
     };
-    let ours = gillacorn_cursor_step(cursor, table.present, bytes(s, table));
-    let told = crate::comparison::code(s, after(at, 20), ours.code);
-    let told = told.u32(s, ours.start).u32(s, ours.end);
-    cursor_told(s, told, ours.cursor)
+    let ours = gillacorn_cursor_step(cursor, present, table);
+    case.compare_byte(ours.code)?;
+    case.compare_all(&[ours.start, ours.end])?;
+    compare_cursor(case, ours.cursor)
 }
 
-fn cursor_told(s: &[u8], told: Comparison, ours: Cursor) -> Comparison {
-    let told = told.u32(s, ours.address).u32(s, ours.end);
-    told.u32(s, ours.source)
-        .u32(s, ours.target)
-        .place(s, ours.place)
+fn compare_cursor(case: &mut Case<'_>, ours: Cursor) -> Result<(), Broken> {
+    case.compare_all(&[ours.address, ours.end, ours.source, ours.target])?;
+    case.compare(ours.place)
 }
