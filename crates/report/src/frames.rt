@@ -31,7 +31,7 @@ fn tally(table: FrameTable) -> Result<usize, SumRefusal>
     Ok(n)
 }
 
-// The line of each frame that an iteration yields.
+// The line of each frame that an iteration yields. A refusal has none: `tally` tells it before.
 fn frame_lines(frames: Iteration, page: &mut Page)
     requires { HasRoom (80 * length (iteration_left frames)) page.old }
     ensures wrote { Put (lines frame_line (yielded (iteration_left frames.entry))) page.old page.new }

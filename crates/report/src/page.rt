@@ -1,4 +1,5 @@
-// A page of text, and what is put on it: words and numbers.
+// A page of text, and what is put on it: words and numbers. Numbers are written by hand: nothing promises that `write!`
+// ends with `Ok`, and these texts can't fail.
 ghost use Rattle.std.specs.Prelude.{◌≡◌, ◌++◌, ◌+◌, ◌≤◌, ◌<◌, length};
 ghost use Rattle.report.specs.Text.{glyph, digits, hex, places, numbered, refused_text};
 ghost use Rattle.report.specs.Page.{HasRoom, Put};
