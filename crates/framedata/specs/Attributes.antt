@@ -24,7 +24,7 @@ pub record Attributes : Type 0 where
 
 -- The bits, by the Rust's masks: prolog in 0 to 3, saved registers in 8 to 10, SEH in 9, base pointer in 10, type in 14
 -- and 15.
--- What asks for attributes cites this name and `attributes_of`, and not the bits.
+-- What asks for attributes cites this name and `Attributes::from`, and not the bits.
 unfoldable pub attributes : ℕ → Attributes
 attributes word =
     record {

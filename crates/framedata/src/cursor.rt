@@ -8,8 +8,6 @@ ghost use Rattle.framedata.specs.Step.{at_start, pick, step_spec, told_step, tol
 use crate::frame::{FrameData, new_frame, old_frame};
 use crate::tables::FrameTable;
 use lent::{NEW_FRAMES, OLD_FRAMES, SumRefusal, bytes_or_none};
-use std::cmp::Ordering;
-
 // Where an iteration stands: the place of the next record in each table.
 #[repr(C)]
 #[derive(Clone, Copy, Debug, PartialEq, Eq)]
@@ -61,10 +59,13 @@ impl FrameCursor {
             (true, true) => {
                 let old_start = lent::u32_at(old, OLD_FRAMES.width * self.old_index);
                 let new_start = lent::u32_at(new, NEW_FRAMES.width * self.new_index);
-                match old_start.cmp(&new_start) {
-                    Ordering::Less => Some(Next::Old),
-                    Ordering::Greater => Some(Next::New),
-                    Ordering::Equal => Some(Next::Both),
+                // Two tests: a match on `cmp` takes longer here, in the loop over all frames.
+                if old_start < new_start {
+                    Some(Next::Old)
+                } else if new_start < old_start {
+                    Some(Next::New)
+                } else {
+                    Some(Next::Both)
                 }
             }
         }

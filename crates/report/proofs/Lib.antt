@@ -1,8 +1,8 @@
 pub mod Writing
+pub mod Pages
 pub mod Windows
 pub mod WindowCase
 pub mod Columns
 pub mod Yields
-pub mod Listing
 pub mod FramesCase
 pub mod Determined

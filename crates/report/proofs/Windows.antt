@@ -1,12 +1,12 @@
 -- The text of a window: its length, and its lines from the pairs that the window's call writes. Refusal 5 is never met.
 -- Assumes nothing.
 use mathlib.Core.Path.{◌≡◌, refl, ap, ◌∙◌}
-use Prim.Native.Nat.{ℕ, suc, ◌+◌, ◌*◌, ◌/◌, ◌≤◌, ◌<◌}
+use Prim.Native.Nat.{ℕ, suc, ◌*◌, ◌/◌, ◌≤◌, ◌<◌}
 use native.Mathlib.Omega.{arith}
 use mathlib.Core.Bool.{Bool, true, false, cond}
 use mathlib.Core.List.{List, [], ◌∷◌, ◌++◌}
 use mathlib.Core.Option.{Option, none, some}
-use lib.ListN.{length, drop, get_or, take, length-append}
+use lib.ListN.{length, drop, get_or, take, length-append, replicate, length-replicate}
 use lib.Seq.{drop-cons, take_at, length-take-le}
 use lib.Dec.{leb}
 use Rattle.lent.specs.Room.{Written, counted, refused_for, room_for, unless_fault}
@@ -15,14 +15,17 @@ use borrow.Author.Tests.{le-leb}
 use Rattle.lent.proofs.Place.{length-listed}
 use Rattle.omap.specs.Records.{entry_at, records}
 use Rattle.omap.specs.declared.lookups.Entry.{Entry}
-use Rattle.omap.specs.Window.{next_of, piece_of, pieces, window_pieces}
-use Rattle.omap.specs.declared.walk.Piece.{Piece}
+use Rattle.omap.specs.Window.{Piece, next_of, piece_of, pieces, window_pieces}
 use Rattle.omap.specs.Output.{beside_start, flat, window_fault}
-use Rattle.omap.specs.Output.{window_spec, window_out}
+use Rattle.omap.specs.Output.{told_windowed, window_spec, window_out}
+use Rattle.omap.specs.Refusals.{window_number}
+use Rattle.omap.specs.declared.windows.WindowRefusal.{WindowRefusal}
+use Rattle.omap.specs.declared.windows.WindowRefusal.TheVariants as refusal
+use Rattle.std.specs.Prelude.{Err}
 use Rattle.omap.proofs.Outputs.{length-flat}
-use Rattle.report.specs.Text.{digits, lines, numbered}
+use Rattle.report.specs.Text.{digits, lines, numbered, refused_text}
 use Rattle.report.specs.Window.{pair_line, piece_line, pair_lines, window_printed, table_text}
-use Rattle.report.proofs.Writing.{length_digits}
+use Rattle.report.proofs.Writing.{length_digits, number_small, few_places}
 
 pub length-pair : (x y : ℕ) → length (pair_line x y) ≡ 18
 length-pair x y =
@@ -51,17 +54,14 @@ length_pairs (x ∷ (y ∷ l)) =
 pub taken-pairs : (l : List ℕ) (n : ℕ) → 2 * n ≤ length l → length (pair_lines (take (2 * n) l)) ≡ 18 * n
 taken-pairs l n h = length_pairs (take (2 * n) l) ∙ omega (arith, length-take-le (2 * n) l h)
 
--- one pair less to write
-pub pair-less : (l : List ℕ) (i : ℕ) → 2 * i + 1 < length l
-    → pair_lines (drop (2 * i) l)
-    ≡ pair_line (get_or l (2 * i) 0) (get_or l (2 * i + 1) 0) ++ pair_lines (drop (2 * (i + 1)) l)
+-- a pair before others
+pub pair-first : (pair rest : List ℕ) → length pair ≡ 2
+    → pair_lines (pair ++ rest) ≡ pair_line (get_or pair 0 0) (get_or pair 1 0) ++ pair_lines rest
 unfolding pair_lines
-pair-less l i h =
-    let e : 2 * (i + 1) ≡ suc (suc (2 * i)) = omega arith in
-    let f : 2 * i + 1 ≡ suc (2 * i) = omega arith in
-    let a : 2 * i < length l = omega arith in
-    let b : suc (2 * i) < length l = omega arith in
-    rw (e, f, drop-cons l (2 * i) 0 a, drop-cons l (suc (2 * i)) 0 b)
+pair-first [] rest e = absurd (omega arith)
+pair-first (x ∷ []) rest e = absurd (omega arith)
+pair-first (x ∷ (y ∷ [])) rest e = refl
+pair-first (x ∷ (y ∷ (z ∷ l))) rest e = absurd (omega arith)
 
 -- what is left after the last pair has no line
 pub pairs-none : (l : List ℕ) → length l < 2 → pair_lines l ≡ []
@@ -140,3 +140,28 @@ module _ (s : List ℕ) (a b : ℕ) where
       let l = window_pieces true s a b in
       let f : take (2 * n) last ≡ flat l = ap (λ (x : List ℕ). take (2 * n) x) w ∙ written out n e in
       rw (f, pairs_of l) (text-is (length out / 2) room (counted n) e)
+
+-- a refusal's text
+pub refused-window : (why : WindowRefusal) (l : List Piece)
+    → window_printed (told_windowed (Err why)) l ≡ refused_text (window_number why)
+refused-window (refusal.Table why) l = refl
+refused-window refusal.TooLarge l = refl
+refused-window (refusal.Short n) l = refl
+
+pub window_number_small : (why : WindowRefusal) → window_number why < 10
+window_number_small (refusal.Table why) = number_small why
+window_number_small refusal.TooLarge = omega arith
+window_number_small (refusal.Short n) = omega arith
+
+-- the call's room, for 8,192 pairs, is enough for a table that an input has
+abbrev pub zeros : List ℕ
+zeros = replicate 16384 0
+
+pub enough : (s : List ℕ) → length s ≤ 65528 → length s / 8 ≤ length zeros / 2
+enough s h = omega (arith, length-replicate {A = ℕ} 16384 0)
+
+pub few_pieces : (s : List ℕ) (a b n : ℕ) → length s ≤ 65528 → counted n ≡ window_spec true s a b (length zeros / 2)
+    → n ≤ 8191
+few_pieces s a b n h e = omega (arith, few s a b, counted-all s a b (length zeros / 2) n e)
+
+pub ruleset window_fits = (few_pieces, taken-pairs, few_places, length-take-le)

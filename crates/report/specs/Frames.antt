@@ -1,9 +1,9 @@
 -- What the program `frames` prints: a line for each frame that an iteration yields, in columns under a heading.
-use Rattle.std.specs.Prelude.{ℕ, ◌+◌, ◌-◌, ◌≡◌, Bool, true, cond, List, [], ◌∷◌, ◌++◌, map, length, take, drop, replicate, leb, eqb}
+use Rattle.std.specs.Prelude.{ℕ, ◌+◌, ◌-◌, Bool, cond, List, [], ◌∷◌, ◌++◌, map, length, take, drop, replicate, leb, eqb}
 use Prim.Native.Char.{code}
 use Rattle.std.proofs.Math.Option.{Option, none, some}
 use Rattle.lent.specs.Le.{le_at}
-use Rattle.lent.specs.Paper.{Told, value, nothing, refused, unless, number}
+use Rattle.lent.specs.Paper.{Told, value, nothing, refused, unless}
 use Rattle.lent.specs.Words.{ascii}
 use Rattle.framedata.specs.Records.{olds, news}
 use Rattle.framedata.specs.Frame.{Frame}
@@ -11,8 +11,6 @@ use Rattle.framedata.specs.Tables.{shape_of_both}
 use Rattle.framedata.specs.Step.{frame}
 use Rattle.framedata.specs.Merge.{merge, all_fit}
 use Rattle.report.specs.Text.{line, hex, numbered, lines, refused_text, input_text}
-use Rattle.report.specs.declared.frames.Tallied.{Tallied}
-use Rattle.report.specs.declared.frames.Tallied.TheVariants as tallied
 
 -- a column, with spaces up to its width
 abbrev pub padded : ℕ → List ℕ → List ℕ
@@ -94,19 +92,8 @@ frames_text input =
 abbrev pub frames_room : ℕ
 frames_room = 327760
 
--- what the program's own functions hand each other: nothing is refused, and there are n frames
-pub record FrameCount (old new : List ℕ) (n : ℕ) : Type 0 where
-  pub good : shape_of_both old new ≡ none
-  pub fit : all_fit (merge (olds old) (news new)) ≡ true
-  pub number : n ≡ length (merge (olds old) (news new))
-
 -- how many frames, or the refusal
 abbrev pub how_many : Told (List Frame) → Told ℕ
 how_many (value l) = value (length l)
 how_many nothing = nothing
 how_many (refused n) = refused n
-
-abbrev pub told_tallied : Tallied → Told ℕ
-told_tallied (tallied.Frames n) = value n
-told_tallied (tallied.Refused why) = refused (number why)
-told_tallied tallied.TooLarge = refused 4

@@ -1,3 +1,5 @@
 pub mod Text
+pub mod Page
 pub mod Window
+pub mod Iteration
 pub mod Frames

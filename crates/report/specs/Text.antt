@@ -1,6 +1,7 @@
 -- Texts. A text is a list of bytes, in ASCII; each of its lines ends in a line feed.
 use Rattle.std.specs.Prelude.{ℕ, zero, suc, ◌+◌, ◌-◌, ◌/◌, ◌%◌, ◌≤◌, ◌≡◌, cond, List, [], ◌∷◌, ◌++◌, length, ltb, leb}
 use Prim.Native.Char.{code}
+use Rattle.std.proofs.Math.Option.{Option, none, some}
 use Rattle.lent.specs.Room.{written_over}
 use Rattle.lent.specs.Words.{ascii}
 
@@ -46,6 +47,10 @@ lines f (x ∷ l) = f x ++ lines f l
 -- a refused run prints this line only
 abbrev pub refused_text : ℕ → List ℕ
 refused_text n = numbered (ascii "refused ") n
+
+-- a program's input has at least so many bytes, else 1, and at most 65,536, else 2
+abbrev pub input_fault : ℕ → List ℕ → Option ℕ
+input_fault least input = cond (ltb (length input) least) (some 1) (cond (leb (length input) 65536) none (some 2))
 
 -- the text for a program's input: under `least` bytes in all refused 1, over 65,536, whatever stands in it, refused 2
 abbrev pub input_text : ℕ → List ℕ → List ℕ → List ℕ

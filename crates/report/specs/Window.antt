@@ -3,8 +3,7 @@ use Rattle.std.specs.Prelude.{ℕ, true, List, [], ◌∷◌, ◌++◌, length, 
 use Rattle.lent.specs.Le.{le_at}
 use Rattle.lent.specs.Room.{Written, counted, refused_as, refused_for}
 use Rattle.lent.specs.Words.{ascii}
-use Rattle.omap.specs.Window.{window_pieces}
-use Rattle.omap.specs.declared.walk.Piece.{Piece}
+use Rattle.omap.specs.Window.{Piece, window_pieces}
 use Rattle.omap.specs.Output.{beside_start, window_spec}
 use Rattle.report.specs.Text.{line, hex, numbered, lines, refused_text, input_text}
 

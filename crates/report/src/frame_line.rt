@@ -1,67 +1,54 @@
 // The line of a frame, in columns.
 ghost use Rattle.std.specs.Prelude.{◌≡◌, ◌∷◌, [], ◌+◌, ◌≤◌, length};
-ghost use Rattle.lent.specs.Room.{Wrote};
 ghost use Rattle.framedata.specs.Attributes.{type_number};
-ghost use Rattle.framedata.specs.Frame.{told_stack, told_program, told_frame};
+ghost use Rattle.framedata.specs.Frame.{told_optional, told_frame};
+ghost use Rattle.report.specs.Page.{HasRoom, Put};
 ghost use Rattle.report.specs.Text.{line};
 ghost use Rattle.report.specs.Frames.{padded, columns, type_name, optional, flag, flags};
 ghost use Rattle.report.specs.Frames.{size_columns, frame_line};
 
-use crate::text::hex;
-use framedata::{FrameData, FrameType, Program, StackSize};
-use lent::put_bytes;
+use crate::page::Page;
+use framedata::{FrameData, FrameType};
 
 // The columns of the sizes.
-fn sizes(f: FrameData, out: &mut [u8], at: usize) -> usize
-    requires { at + 49 ≤ length out.old }
-    ensures wrote { Wrote (columns (size_columns (told_frame f))) out.old at result out.new }
-    ensures value { result ≡ at + 49 }
+fn sizes(f: FrameData, page: &mut Page)
+    requires { HasRoom 49 page.old }
+    ensures wrote { Put (columns (size_columns (told_frame f))) page.old page.new }
+    ensures value { page.new.at ≡ page.old.at + 49 }
 {
-    let size = hex(f.code_start as u64, 8, b" ", out, at);
-    let locals = hex(f.code_size as u64, 8, b" ", out, size);
-    let params = hex(f.locals_size as u64, 8, b" ", out, locals);
-    let prolog = hex(f.params_size as u64, 8, b" ", out, params);
-    let saved = hex(f.prolog_size as u64, 4, b"   ", out, prolog);
-    hex(f.saved_regs_size as u64, 4, b"  ", out, saved)
+    page.hex(f.code_start, 8, b" ");
+    page.hex(f.code_size, 8, b" ");
+    page.hex(f.locals_size, 8, b" ");
+    page.hex(f.params_size, 8, b" ");
+    page.hex(u32::from(f.prolog_size), 4, b"   ");
+    page.hex(u32::from(f.saved_regs_size), 4, b"  ");
 }
 
-// The column stack.
-fn stack(size: StackSize, out: &mut [u8], at: usize) -> usize
-    requires { at + 9 ≤ length out.old }
-    ensures wrote { Wrote (columns (optional (told_stack size) ∷ [])) out.old at result out.new }
-    ensures value { result ≡ at + 9 }
+// The column of a number that may be missing.
+fn optional(n: Option<u32>, page: &mut Page)
+    requires { HasRoom 9 page.old }
+    ensures wrote { Put (columns (optional (told_optional n) ∷ [])) page.old page.new }
+    ensures value { page.new.at ≡ page.old.at + 9 }
 {
-    match size {
-        StackSize::Bytes(n) => hex(n as u64, 8, b" ", out, at),
-        StackSize::Nothing => put_bytes(b"-------- ", out, at),
+    match n {
+        Some(n) => page.hex(n, 8, b" "),
+        None => page.put(b"-------- "),
     }
 }
 
-// The column program.
-fn program(string: Program, out: &mut [u8], at: usize) -> usize
-    requires { at + 9 ≤ length out.old }
-    ensures wrote { Wrote (columns (optional (told_program string) ∷ [])) out.old at result out.new }
-    ensures value { result ≡ at + 9 }
-{
-    match string {
-        Program::At(n) => hex(n as u64, 8, b" ", out, at),
-        Program::Nothing => put_bytes(b"-------- ", out, at),
-    }
-}
-
-// The column type.
-fn kind(ty: FrameType, out: &mut [u8], at: usize) -> usize
-    requires { at + 8 ≤ length out.old }
-    ensures wrote { Wrote (columns (padded 5 (type_name (type_number ty)) ∷ [])) out.old at result out.new }
-    ensures upper_bound { result ≤ at + 8 }
+// The column of the type.
+#[tactic(auto, unfolding(crate::specs::Frames::type_name))]
+fn type_column(ty: FrameType) -> &'static [u8]
+    ensures wrote { result.now ≡ columns (padded 5 (type_name (type_number ty)) ∷ []) }
+    ensures upper_bound { length result.now ≤ 8 }
 {
     match ty {
-        FrameType::FPO => put_bytes(b"fpo   ", out, at),
-        FrameType::Trap => put_bytes(b"trap  ", out, at),
-        FrameType::TSS => put_bytes(b"tss   ", out, at),
-        FrameType::Standard => put_bytes(b"std   ", out, at),
-        FrameType::FrameData => put_bytes(b"fdata ", out, at),
-        FrameType::Unknown => put_bytes(b"unknown ", out, at),
+        FrameType::FPO => b"fpo   ",
+        FrameType::Trap => b"trap  ",
+        FrameType::TSS => b"tss   ",
+        FrameType::Standard => b"std   ",
+        FrameType::FrameData => b"fdata ",
+        FrameType::Unknown => b"unknown ",
     }
 }
 
@@ -73,33 +60,29 @@ fn letter(on: bool, letter: u8) -> u8
 }
 
 // The flags, and the end of the line.
-fn letters(f: FrameData, out: &mut [u8], at: usize) -> usize
-    requires { at + 5 ≤ length out.old }
-    ensures wrote { Wrote (line (flags (told_frame f))) out.old at result out.new }
-    ensures value { result ≡ at + 5 }
+fn letters(f: FrameData, page: &mut Page)
+    requires { HasRoom 5 page.old }
+    ensures wrote { Put (line (flags (told_frame f))) page.old page.new }
+    ensures value { page.new.at ≡ page.old.at + 5 }
 {
-    let text = [
+    page.put(&[
         letter(f.has_structured_eh, b's'),
         letter(f.has_cpp_eh, b'c'),
         letter(f.is_function_start, b'f'),
         letter(f.uses_base_pointer, b'b'),
         b'\n',
-    ];
-    put_bytes(&text, out, at)
+    ]);
 }
 
 // A frame on a line.
-pub(crate) fn frame_line(f: FrameData, out: &mut [u8], at: usize) -> usize
-    requires { at + 80 ≤ length out.old }
-    ensures wrote { Wrote (frame_line (told_frame f)) out.old at result out.new }
-    ensures upper_bound { result ≤ at + 80 }
+pub(crate) fn frame_line(f: FrameData, page: &mut Page)
+    requires { HasRoom 80 page.old }
+    ensures wrote { Put (frame_line (told_frame f)) page.old page.new }
+    ensures upper_bound { page.new.at ≤ page.old.at + 80 }
 {
-    let max_stack_size = f.max_stack_size;
-    let string = f.program;
-    let ty = f.ty;
-    let sized = sizes(f, out, at);
-    let stacked = stack(max_stack_size, out, sized);
-    let programmed = program(string, out, stacked);
-    let typed = kind(ty, out, programmed);
-    letters(f, out, typed)
+    sizes(f, page);
+    optional(f.max_stack_size, page);
+    optional(f.program, page);
+    page.put(type_column(f.ty));
+    letters(f, page);
 }

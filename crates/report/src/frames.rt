@@ -1,108 +1,82 @@
 // What the program `frames` prints: the frames of both tables in order of code start.
-ghost use Rattle.std.specs.Prelude.{◌≡◌, ◌+◌, ◌*◌, ◌≤◌, length};
-ghost use Rattle.lent.specs.Paper.{value};
-ghost use Rattle.lent.specs.Room.{Wrote};
-ghost use Rattle.report.specs.Text.{lines, Printed};
-ghost use Rattle.report.specs.Frames.{frame_line, frames, frames_printed, frames_or_refusal, frames_text, frames_room};
-ghost use Rattle.report.specs.Frames.{FrameCount, how_many, told_tallied};
+ghost use Rattle.std.specs.Prelude.{◌≡◌, ◌+◌, ◌*◌, ◌≤◌, length, MatchResult};
+ghost use Rattle.lent.specs.Paper.{sum_number, told_value};
+ghost use Rattle.lent.specs.Table.{bytes_of};
+ghost use Rattle.report.specs.Text.{lines, refused_text, Printed};
+ghost use Rattle.report.specs.Page.{HasRoom, Put};
+ghost use Rattle.report.specs.Iteration.{iteration_left, yielded};
+ghost use Rattle.report.specs.Frames.{frame_line, frames_printed, frames_or_refusal, frames_text, frames_room};
+ghost use Rattle.report.specs.Frames.{how_many};
 
 use crate::frame_line::frame_line;
-use crate::text::{numbered, refused};
-use framedata::{FrameCursor, FrameStep};
-use lent::{Refusal, put_bytes};
+use crate::input::check_length;
+use crate::iteration::Iteration;
+use crate::page::Page;
+use framedata::FrameTable;
+use lent::{Numbered, Refusal, SumRefusal};
 
 // Room for the largest text: 4,097 lines of at most 80 bytes.
 pub const FRAMES_ROOM: usize = 327760;
 
 // How many frames an iteration over both tables yields.
-#[derive(Clone, Copy)]
-enum Tallied {
-    Frames(usize),
-    Refused(Refusal),
-    // Refusal 4: a frame that is yielded is too large.
-    TooLarge,
+fn tally(table: FrameTable) -> Result<usize, SumRefusal>
+    ensures { told_value sum_number result
+        ≡ how_many (frames_or_refusal (bytes_of table.entry.old) (bytes_of table.entry.new)) }
+{
+    let mut n = 0;
+    for frame in Iteration::new(table) {
+        frame?;
+        n += 1;
+    }
+    Ok(n)
 }
 
-fn tally(old: &[u8], new: &[u8]) -> Tallied
-    ensures { told_tallied result ≡ how_many (frames_or_refusal old.now new.now) }
+// The line of each frame that an iteration yields. A refusal has none: `tally` tells it before.
+fn frame_lines(frames: Iteration, page: &mut Page)
+    requires { HasRoom (80 * length (iteration_left frames)) page.old }
+    ensures wrote { Put (lines frame_line (yielded (iteration_left frames.entry))) page.old page.new }
+    ensures upper_bound { page.new.at ≤ page.old.at + 80 * length (iteration_left frames.entry) }
 {
-    let mut cursor = FrameCursor::new();
-    let mut n: usize = 0;
-    loop {
-        let step = cursor.step(true, old, true, new);
-        match step {
-            FrameStep::Frame(_, next) => {
-                cursor = next;
-                n += 1;
-            }
-            FrameStep::End(_) => {
-                return Tallied::Frames(n);
-            }
-            FrameStep::Refused(why, _) => {
-                return Tallied::Refused(why);
-            }
-            FrameStep::TooLarge(_) => {
-                return Tallied::TooLarge;
-            }
+    for frame in frames {
+        if let Ok(frame) = frame {
+            frame_line(frame, page);
         }
     }
 }
 
-// The line of each frame. Nothing is refused here: `tally` has gone the same way before.
-fn frame_lines(old: &[u8], new: &[u8], n: usize, out: &mut [u8], at: usize) -> usize
-    requires { FrameCount old.now new.now n × (at + 80 * n ≤ length out.old) }
-    ensures wrote { Wrote (lines frame_line (frames old.now new.now)) out.old at result out.new }
-    ensures upper_bound { result ≤ at + 80 * n }
+// The heading, the frames of both tables, and their number. A refusal leaves the page as it is.
+fn listing(table: FrameTable, page: &mut Page) -> Result<(), SumRefusal>
+    requires small { length (bytes_of table.old) + length (bytes_of table.new) ≤ 65532 }
+    requires room { HasRoom frames_room page.old }
+    ensures { let text = frames_printed (frames_or_refusal (bytes_of table.entry.old) (bytes_of table.entry.new)) in
+        MatchResult result (λ _. Put text page.old page.new)
+        (λ why. (page.new ≡ page.old) × (text ≡ refused_text (sum_number why))) }
 {
-    let mut cursor = FrameCursor::new();
-    let mut k = at;
-    loop {
-        let step = cursor.step(true, old, true, new);
-        match step {
-            FrameStep::Frame(frame, next) => {
-                k = frame_line(frame, out, k);
-                cursor = next;
-            }
-            FrameStep::End(_) => {
-                return k;
-            }
-            FrameStep::Refused(_, _) => {
-                return k;
-            }
-            FrameStep::TooLarge(_) => {
-                return k;
-            }
-        }
-    }
+    let n = tally(table)?;
+    page.put(b"start    size     locals   params   prolog saved stack    program  type  flags\n");
+    frame_lines(Iteration::new(table), page);
+    page.numbered(b"frames ", n);
+    Ok(())
 }
 
-// The heading, the frames, and their number.
-fn listing(old: &[u8], new: &[u8], n: usize, out: &mut [u8]) -> usize
-    requires { FrameCount old.now new.now n × ((n ≤ 4095) × (frames_room ≤ length out.old)) }
-    ensures { Wrote (frames_printed (value (frames old.now new.now)))
-        out.old 0 result out.new }
+// The same for an input of the old table's length, the old table and the new one.
+#[tactic(auto, unfolding(crate::specs::Frames::frames_text))]
+fn print(input: &[u8], page: &mut Page) -> Result<(), SumRefusal>
+    requires { HasRoom frames_room page.old }
+    ensures { MatchResult result (λ _. Put (frames_text input.now) page.old page.new)
+        (λ why. (page.new ≡ page.old) × (frames_text input.now ≡ refused_text (sum_number why))) }
 {
-    let first = put_bytes(
-        b"start    size     locals   params   prolog saved stack    program  type  flags\n",
-        out,
-        0,
-    );
-    let last = frame_lines(old, new, n, out, first);
-    numbered(b"frames ", n, out, last)
-}
-
-// The frames of both tables, or the refusal.
-fn tables_text(old: &[u8], new: &[u8], out: &mut [u8]) -> usize
-    requires { (length old.now + length new.now ≤ 65532) × (frames_room ≤ length out.old) }
-    ensures { Wrote (frames_printed (frames_or_refusal old.now new.now))
-        out.old 0 result out.new }
-{
-    let tallied = tally(old, new);
-    match tallied {
-        Tallied::Frames(n) => listing(old, new, n, out),
-        Tallied::Refused(why) => refused(lent::refusal_number(why), out),
-        Tallied::TooLarge => refused(lent::TOO_LARGE, out),
+    check_length(input, 4)?;
+    let old_length = lent::u32_at(input, 0) as usize;
+    if old_length > input.len() - 4 {
+        return Err(SumRefusal::Table(Refusal::Length));
     }
+    let (old, new) = input[4..].split_at(old_length);
+    let table = FrameTable {
+        old: Some(old),
+        new: Some(new),
+    };
+    listing(table, page)
 }
 
 // What the program `frames` prints for an input of the old table's length, the old table and the
@@ -113,16 +87,12 @@ pub fn frames_text(input: &[u8], out: &mut [u8]) -> usize
     if out.len() < FRAMES_ROOM {
         return 0;
     }
-    if input.len() < 4 {
-        return refused(1, out);
+    let mut page = Page { out, at: 0 };
+    match print(input, &mut page) {
+        Ok(()) => page.at,
+        Err(why) => {
+            page.refused(why.number());
+            page.at
+        }
     }
-    if input.len() > 65536 {
-        return refused(2, out);
-    }
-    let old_length = lent::u32_at(input, 0) as usize;
-    if old_length > input.len() - 4 {
-        return refused(1, out);
-    }
-    let middle = 4 + old_length;
-    tables_text(&input[4..middle], &input[middle..], out)
 }

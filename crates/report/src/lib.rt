@@ -3,7 +3,9 @@
 
 mod frame_line;
 mod frames;
-mod text;
+mod input;
+mod iteration;
+mod page;
 mod window;
 
 pub use frames::{FRAMES_ROOM, frames_text};

@@ -1,66 +1,68 @@
 // What the program `window` prints.
-ghost use Rattle.std.specs.Prelude.{◌++◌, ◌+◌, ◌*◌, ◌≤◌, length, take};
-ghost use Rattle.lent.specs.Room.{Wrote};
-ghost use Rattle.lent.specs.Words.{ascii};
-ghost use Rattle.report.specs.Text.{numbered, Printed};
+ghost use Rattle.std.specs.Prelude.{◌≡◌, ◌≤◌, length, MatchResult};
+ghost use Rattle.omap.specs.Refusals.{window_number};
+ghost use Rattle.report.specs.Page.{HasRoom, Put};
+ghost use Rattle.report.specs.Text.{refused_text, Printed};
 ghost use Rattle.report.specs.Window.{pair_line, pair_lines, table_text, window_text, window_room};
 
-use crate::text::{hex, numbered, refused};
-use omap::windows::{Windowed, window};
+use crate::input::check_length;
+use crate::page::Page;
+use lent::Numbered;
+use omap::windows::{WindowRefusal, window};
 
 // Room for the largest text: 8,191 lines of 18 bytes, and the line that counts them.
 pub const WINDOW_ROOM: usize = 147456;
 
 // Two numbers on a line.
-fn pair_line(x: u32, y: u32, out: &mut [u8], at: usize) -> usize
-    requires { at + 18 ≤ length out.old }
-    ensures { Wrote (pair_line x y) out.old at result out.new }
+fn pair_line(x: u32, y: u32, page: &mut Page)
+    requires { HasRoom 18 page.old }
+    ensures { Put (pair_line x y) page.old page.new }
 {
-    let second = hex(x as u64, 8, b" ", out, at);
-    hex(y as u64, 8, b"\n", out, second)
+    page.hex(x, 8, b" ");
+    page.hex(y, 8, b"\n");
 }
 
 // The line of each pair of numbers.
-fn pair_lines(pairs: &[u32], out: &mut [u8], at: usize) -> usize
-    requires { at + length (pair_lines pairs.now) ≤ length out.old }
-    ensures { Wrote (pair_lines pairs.now) out.old at result out.new }
+fn pair_lines(pairs: &[u32], page: &mut Page)
+    requires { HasRoom (length (pair_lines pairs.now)) page.old }
+    ensures { Put (pair_lines pairs.now) page.old page.new }
 {
-    let n = pairs.len() / 2;
-    let mut i = 0;
-    let mut k = at;
-    while i < n {
-        k = pair_line(pairs[2 * i], pairs[2 * i + 1], out, k);
-        i += 1;
+    for pair in pairs.chunks_exact(2) {
+        pair_line(pair[0], pair[1], page);
     }
-    k
 }
 
-// The lines of the first n pairs, and their number.
-fn pieces_text(pairs: &[u32], n: usize, out: &mut [u8]) -> usize
-    requires { (2 * n ≤ length pairs.now) × ((n ≤ 8191) × (window_room ≤ length out.old)) }
-    ensures { Wrote (pair_lines (take (2 * n) pairs.now) ++ numbered (ascii "pieces ") n)
-        out.old 0 result out.new }
-{
-    let last = 2 * n;
-    let at = pair_lines(&pairs[..last], out, 0);
-    numbered(b"pieces ", n, out, at)
-}
-
-// The pieces of a window of a table, or its refusal.
-fn table_text(a: u32, b: u32, table: &[u8], out: &mut [u8]) -> usize
-    requires { (length table.now ≤ 65528) × (window_room ≤ length out.old) }
-    ensures { Wrote (table_text a b table.now) out.old 0 result out.new }
+// The pieces of a window of a table, and their number. A refusal leaves the page as it is.
+#[tactic(auto, using(crate::proofs::Windows::window_fits))]
+fn listing(a: u32, b: u32, table: &[u8], page: &mut Page) -> Result<(), WindowRefusal>
+    requires small { length table.now ≤ 65528 }
+    requires room { HasRoom window_room page.old }
+    ensures { MatchResult result (λ _. Put (table_text a b table.now) page.old page.new)
+        (λ why. (page.new ≡ page.old) × (table_text a b table.now ≡ refused_text (window_number why))) }
 {
     let mut pairs = [0u32; 16384];
-    let windowed = window(true, table, a, b, &mut pairs);
-    match windowed {
-        Windowed::Pieces(n) => pieces_text(&pairs, n, out),
-        Windowed::Refused(why) => refused(lent::refusal_number(why), out),
-        Windowed::TooLarge => refused(lent::TOO_LARGE, out),
-        Windowed::Short(_) => refused(lent::SHORT, out),
-    }
+    let n = window(Some(table), a, b, &mut pairs)?;
+    pair_lines(&pairs[..2 * n], page);
+    page.numbered(b"pieces ", n);
+    Ok(())
 }
 
+// The same for an input of a, b and the table.
+#[tactic(auto, unfolding(crate::specs::Window::window_text))]
+fn print(input: &[u8], page: &mut Page) -> Result<(), WindowRefusal>
+    requires { HasRoom window_room page.old }
+    ensures { MatchResult result (λ _. Put (window_text input.now) page.old page.new)
+        (λ why. (page.new ≡ page.old) × (window_text input.now ≡ refused_text (window_number why))) }
+{
+    check_length(input, 8).map_err(WindowRefusal::Table)?;
+    let a = lent::u32_at(input, 0);
+    let b = lent::u32_at(input, 4);
+    listing(a, b, &input[8..], page)
+}
+
+// The end of this function is that of `frames_text`: one function for both would take `print` as a closure, and its
+// promise would have to be told of the closure's own.
+//
 // What the program `window` prints for an input of a, b and an OMAP table. The answer is the
 // length of the text, or 0 where `out` is shorter than `WINDOW_ROOM`.
 pub fn window_text(input: &[u8], out: &mut [u8]) -> usize
@@ -69,13 +71,12 @@ pub fn window_text(input: &[u8], out: &mut [u8]) -> usize
     if out.len() < WINDOW_ROOM {
         return 0;
     }
-    if input.len() < 8 {
-        return refused(1, out);
+    let mut page = Page { out, at: 0 };
+    match print(input, &mut page) {
+        Ok(()) => page.at,
+        Err(why) => {
+            page.refused(why.number());
+            page.at
+        }
     }
-    if input.len() > 65536 {
-        return refused(2, out);
-    }
-    let a = lent::u32_at(input, 0);
-    let b = lent::u32_at(input, 4);
-    table_text(a, b, &input[8..], out)
 }

@@ -1,26 +1,13 @@
-use native.Mathlib.Omega.{arith}
 use mathlib.Core.List.{append_assoc}
-use Rattle.lent.proofs.Wrote.{wrote-both}
+use Rattle.report.proofs.Pages.{put_both}
 use Rattle.report.proofs.Writing.{length_digits}
 use Rattle.report.proofs.frame_line.sizes.Goals as goal
 
-pub hex-saved-requires : goal.hex-saved-requires
-hex-saved-requires c =
-    omega arith
-
-pub hex-requires : goal.hex-requires
-hex-requires c =
-    omega arith
-
-pub shape_of-out : goal.shape_of-out
-shape_of-out c =
-    omega arith
-
-pub returns : goal.returns
-returns c =
+pub returns-clause-wrote : goal.returns-clause-wrote
+returns-clause-wrote c =
     let text
-    = wrote-both c.hex-size.ensures.wrote
-    (wrote-both c.hex-locals.ensures.wrote
-    (wrote-both c.hex-params.ensures.wrote
-    (wrote-both c.hex-prolog.ensures.wrote (wrote-both c.hex-saved.ensures.wrote c.hex.ensures.wrote)))) in
-    record { wrote = simp (length_digits, append_assoc) (simp append_assoc at text); value = omega arith }
+    = put_both c.hex.ensures.wrote
+    (put_both c.hex-2.ensures.wrote
+    (put_both c.hex-3.ensures.wrote
+    (put_both c.hex-4.ensures.wrote (put_both c.hex-5.ensures.wrote c.hex-6.ensures.wrote)))) in
+    simp (length_digits, append_assoc) (simp append_assoc at (rw (c.from.ensures, c.from-2.ensures) at text))

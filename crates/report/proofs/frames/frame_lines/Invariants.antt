@@ -1,10 +1,15 @@
+use Prim.Native.Nat.{◌+◌, ◌*◌, ◌≤◌}
 use lib.ListN.{length}
-use Rattle.framedata.specs.Merge.{left}
-use Rattle.report.proofs.Listing.{Listing}
+use Rattle.report.specs.Text.{lines}
+use Rattle.report.specs.Frames.{frame_line}
+use Rattle.report.specs.Iteration.{iteration_left, yielded}
+use Rattle.report.proofs.Pages.{Going}
 use Rattle.report.proofs.frames.frame_lines.Given as goal
 
 abbrev pub invariant-loop-frame : goal.invariant-loop-frame
-invariant-loop-frame l = Listing l.old l.new l.initial.out l.at l.n l.cursor l.out l.k
-
-abbrev pub decreases-loop-frame : goal.decreases-loop-frame
-decreases-loop-frame l = length (left l.old l.new l.cursor)
+invariant-loop-frame l = record {
+  going : Going (lines frame_line (yielded (iteration_left l.fn.frames))) l.initial.page
+      (lines frame_line (yielded (iteration_left l.frame-iterator))) l.page;
+  small : l.page.at + 80 * length (iteration_left l.frame-iterator)
+      ≤ l.initial.page.at + 80 * length (iteration_left l.fn.frames);
+}

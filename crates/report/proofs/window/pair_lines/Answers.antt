@@ -1,46 +1,38 @@
-use Prim.Native.Nat.{◌+◌, ◌*◌, ◌<◌}
+use mathlib.Core.Path.{ap, ◌∙◌}
 use native.Mathlib.Omega.{arith}
-use lib.ListN.{length, drop, get_or, length-drop}
-use Rattle.lent.proofs.Wrote.{left-first, left-last, left-room, left-more}
+use lib.ListN.{get_or}
+use Rattle.std.specs.Slice.Iter.{chunks_exact_rest}
 use Rattle.report.specs.Window.{pair_line, pair_lines}
-use Rattle.report.proofs.Windows.{length-pair, pair-less, pairs-none}
+use Rattle.report.proofs.Pages.{going_room, going_more, going_last}
+use Rattle.report.proofs.Windows.{length-pair, pair-first, pairs-none}
 use Rattle.report.proofs.window.pair_lines.Goals as goal
 
-pub loop-i-init : goal.loop-i-init
-loop-i-init c =
-    let a = c.args in
-    (omega arith, left-first (pair_lines a.pairs.now) a.out.now a.at)
+pub pair_line-requires : goal.pair_line-requires
+pair_line-requires c =
+    let pair = c.in-Some.pair.now in
+    let rest = chunks_exact_rest c.next.new.self in
+    let steps = c.in-Some.ensures.steps in
+    let l = c.loop-pair.invariant in
+    let next = ap pair_lines steps.1.0 ∙ pair-first pair rest (steps.1.1 ∙ l.by-two) in
+    let x = get_or pair 0 0 in
+    let y = get_or pair 1 0 in
+    omega (arith, length-pair x y, going_room (pair_line x y) (pair_lines rest) l.going next c.requires)
 
-pub pair_line-k-requires : goal.pair_line-k-requires
-pair_line-k-requires c =
-    let a = c.args in
-    let room = left-room (pair_line (get_or a.pairs.now (2 * c.loop-i.i) 0) (get_or a.pairs.now (2 * c.loop-i.i + 1)
-    0)) (pair_lines (drop (2 * (c.loop-i.i + 1)) a.pairs.now)) c.loop-i.invariant.1 (pair-less a.pairs.now c.loop-i.i
-    (omega arith)) c.requires in
-    omega (
-      arith,
-      length-pair (get_or a.pairs.now (2 * c.loop-i.i) 0) (get_or a.pairs.now (2 * c.loop-i.i + 1) 0),
-      room,
-    )
-
-pub loop-i-preserved : goal.loop-i-preserved
-loop-i-preserved c =
-    let a = c.args in
-    let line = c.pair_line-k.ensures in (
-      omega arith,
-      left-more (pair_line (get_or a.pairs.now (2 * c.loop-i.i) 0) (get_or a.pairs.now (2 * c.loop-i.i +
-          1) 0)) (pair_lines (drop (2 * (c.loop-i.i + 1)) a.pairs.now)) c.loop-i.invariant.1 (pair-less a.pairs.now
-          c.loop-i.i (omega arith)) line,
-    )
-
-pub shape_of-out : goal.shape_of-out
-shape_of-out c =
-    c.loop-i.invariant.1.kept
+pub loop-pair-preserved : goal.loop-pair-preserved
+loop-pair-preserved c =
+    let pair = c.in-Some.pair.now in
+    let rest = chunks_exact_rest c.next.new.self in
+    let steps = c.in-Some.ensures.steps in
+    let l = c.loop-pair.invariant in
+    let next = ap pair_lines steps.1.0 ∙ pair-first pair rest (steps.1.1 ∙ l.by-two) in
+    record {
+      going = going_more (pair_line (get_or pair 0 0) (get_or pair 1 0)) (pair_lines rest) l.going next c.pair_line.ensures;
+      by-two = steps.0 ∙ l.by-two;
+    }
 
 pub returns : goal.returns
 returns c =
-    let l = c.loop-i in
-    let s = c.args.pairs.now in
-    let e : length (drop (2 * l.i) s) < 2 = omega (arith, length-drop (2 * l.i) s) in
-    let w = rw (pairs-none (drop (2 * l.i) s) e) at l.invariant.1 in
-    left-last (omega (arith, w.places-left)) w
+    let l = c.loop-pair.invariant in
+    let short = c.in-None.ensures.steps.1.0 in
+    let last = rw (pairs-none (chunks_exact_rest c.loop-pair.pair-iterator) (omega (arith, l.by-two, short))) at l.going in
+    going_last (omega (arith, last.left.places-left)) last

@@ -1,12 +1,11 @@
-use Prim.Native.Nat.{◌-◌, ◌*◌, ◌≤◌}
-use lib.ListN.{drop}
-use Rattle.lent.proofs.Wrote.{Left}
+use mathlib.Core.Path.{◌≡◌}
+use Rattle.std.specs.Slice.Iter.{chunks_exact_rest, chunks_exact_size}
 use Rattle.report.specs.Window.{pair_lines}
+use Rattle.report.proofs.Pages.{Going}
 use Rattle.report.proofs.window.pair_lines.Given as goal
 
-abbrev pub invariant-loop-i : goal.invariant-loop-i
-invariant-loop-i l =
-    (l.i ≤ l.n) × Left (pair_lines l.pairs) l.initial.out l.at (pair_lines (drop (2 * l.i) l.pairs)) l.out l.k
-
-abbrev pub decreases-loop-i : goal.decreases-loop-i
-decreases-loop-i l = l.n - l.i
+abbrev pub invariant-loop-pair : goal.invariant-loop-pair
+invariant-loop-pair l = record {
+  going : Going (pair_lines l.pairs) l.initial.page (pair_lines (chunks_exact_rest l.pair-iterator)) l.page;
+  by-two : chunks_exact_size l.pair-iterator ≡ 2;
+}
