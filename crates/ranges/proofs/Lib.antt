@@ -1,3 +1,4 @@
+pub mod Planning
 pub mod Writing
 pub mod Listing
 pub mod Draining

@@ -1,1 +1,2 @@
 pub mod ListOut
+pub mod Inside

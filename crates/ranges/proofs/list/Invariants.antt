@@ -1,11 +1,14 @@
-use Rattle.std.specs.Prelude.{is_some}
-use Rattle.lent.specs.Table.{bytes_of}
+use Prim.Native.Nat.{◌-◌}
 use Rattle.ranges.specs.ListOut.{list_out}
 use Rattle.ranges.proofs.Listing.{Lists}
 use Rattle.ranges.proofs.Writing.{Writing}
 use Rattle.ranges.proofs.list.Given as goal
 
+-- the span has the pieces that are left to write
 abbrev pub invariant-loop-k : goal.invariant-loop-k
 invariant-loop-k l =
-    Writing Lists l.initial.out (list_out (is_some l.table) (bytes_of l.table) l.a l.b l.initial.out) l.window.count l.out
-    l.k-iterator.count l.k-iterator.iter
+    Writing (Lists l.present l.table l.a l.b) l.fn.out (list_out l.present l.table l.a l.b l.fn.out) l.n l.out l.k
+    l.span
+
+abbrev pub decreases-loop-k : goal.decreases-loop-k
+decreases-loop-k l = l.n - l.k
