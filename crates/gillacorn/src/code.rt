@@ -1,10 +1,9 @@
-// The codes that every answer begins with.
+// The codes that every answer begins with: 0 with a value, 255 for none, and a refusal by its number.
 ghost use Rattle.std.specs.Prelude.{◌≡◌};
-ghost use Rattle.omap.specs.Lookup.{told_looked};
+ghost use Rattle.lent.specs.Paper.{sum_number, told};
 ghost use Rattle.gillacorn.specs.Code.{value_answer};
 
-use lent::refusal_number;
-use omap::Looked;
+use lent::{Numbered, SumRefusal};
 
 // A number beside its code.
 #[repr(C)]
@@ -14,21 +13,17 @@ pub struct ValueAnswer {
     pub value: u32,
 }
 
-pub fn value_answer(looked: Looked) -> ValueAnswer
-    ensures { result ≡ value_answer (told_looked looked) }
+pub fn value_answer(answer: Result<Option<u32>, SumRefusal>) -> ValueAnswer
+    ensures { result ≡ value_answer (told sum_number answer) }
 {
-    match looked {
-        Looked::At(value) => ValueAnswer { code: 0, value },
-        Looked::Nothing => ValueAnswer {
+    match answer {
+        Ok(Some(value)) => ValueAnswer { code: 0, value },
+        Ok(None) => ValueAnswer {
             code: 255,
             value: 0,
         },
-        Looked::Refused(why) => ValueAnswer {
-            code: refusal_number(why),
-            value: 0,
-        },
-        Looked::TooLarge => ValueAnswer {
-            code: lent::TOO_LARGE,
+        Err(why) => ValueAnswer {
+            code: why.number(),
             value: 0,
         },
     }
