@@ -9,8 +9,9 @@ use mathlib.Core.Option.{none, some}
 use lib.ListN.{length}
 use lib.Dec.{ltb}
 use borrow.Author.Tests.{le-leb, lt-leb, le-ltb, lt-ltb}
-use Rattle.lent.specs.Paper.{value, nothing, refused, fitted}
-use Rattle.lent.specs.Table.{listed, section_shape}
+use Rattle.lent.specs.Paper.{value, nothing, fitted}
+use Rattle.lent.specs.Table.{listed, section_table, section_shape}
+use Rattle.lent.proofs.Shaped.{at_most}
 use Rattle.lent.proofs.Place.{listed-step, listed-end, listed-all}
 use Rattle.pe.specs.Header.{header_at}
 use Rattle.pe.specs.Extent.{extent}
@@ -51,10 +52,6 @@ module _ (by : ExtentBy) (s : List ℕ) (a i : ℕ) where
       walk-on l = rw (first, le-leb (start s i) a b, le-ltb (a - start s i) (extent_at by s i) l)
 
 module _ (by : ExtentBy) (s : List ℕ) (a : ℕ) where
-  pub section-refused : (n : ℕ) → some n ≡ section_shape s → refused n ≡ section_spec by s a
-  unfolding section_spec
-  section-refused n e = rw (← e)
-
   pub section-good : none ≡ section_shape s → section_spec by s a ≡ walk by a 0 (rest s 0)
   unfolding section_spec
   section-good e = rw (← e) (ap (walk by a 0) (listed-all (header_at s) (length s / 40)))
@@ -63,28 +60,22 @@ module _ (s : List ℕ) (n o : ℕ) where
   abbrev x : Offset
   x = in_section n o
 
-  pub address-refused : (k : ℕ) → some k ≡ section_shape s → refused k ≡ address_spec s x
-  unfolding address_spec
-  address-refused k e = rw (← e)
-
   module _ (good : none ≡ section_shape s) where
     address-good : address_spec s x ≡ fitted (placed s n o)
     unfolding address_spec
     address-good = rw (← good)
 
-    pub address-zero : n ≡ 0 → nothing ≡ address_spec s x
-    address-zero e = rw (address-good, e)
-
     module _ (i : ℕ) (e : n ≡ i + 1) where
       at_place : placed s n o ≡ cond (ltb i (length s / 40)) (some (start s i + o)) none
       at_place = rw (e, add-one)
-
-      pub address-past : length s / 40 ≤ i → nothing ≡ address_spec s x
-      address-past h = rw (address-good, at_place, le-ltb i (length s / 40) h)
 
       module _ (h : i < length s / 40) where
         pub address-at : start s i + o ≤ 4294967295 → value (start s i + o) ≡ address_spec s x
         address-at l = rw (address-good, at_place, lt-ltb i (length s / 40) h, le-leb (start s i + o) 4294967295 l)
 
-        pub address-large : 4294967295 < start s i + o → refused 4 ≡ address_spec s x
-        address-large l = rw (address-good, at_place, lt-ltb i (length s / 40) h, lt-leb (start s i + o) 4294967295 l)
+-- a table of the right shape has few sections
+pub few_sections : (s : List ℕ) → none ≡ section_shape s → length s / 40 ≤ 65535
+few_sections = at_most section_table
+
+-- one turn of the walk, and its end
+pub ruleset walking = (few_sections, walk_end, walk-later, walk_here, walk-on)

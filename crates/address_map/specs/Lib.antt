@@ -1,2 +1,4 @@
 pub mod Sections
 pub mod Paths
+pub mod Told
+pub mod Map

@@ -1,28 +1,17 @@
 -- From an address to a section and an offset in it, and back.
 use Rattle.std.specs.Prelude.{ℕ, zero, suc, ◌+◌, ◌-◌, ◌/◌, cond, List, [], ◌∷◌, length, ltb, leb}
 use Rattle.std.proofs.Math.Option.{Option, none, some}
-use Rattle.lent.specs.Paper.{Told, value, nothing, refused, unless, number, fitted}
+use Rattle.lent.specs.Paper.{Told, value, nothing, unless, fitted}
 use Rattle.lent.specs.Table.{section_shape}
 use Rattle.pe.specs.Header.{header_at, headers}
 use Rattle.pe.specs.Extent.{extent}
 use Rattle.pe.specs.declared.extent.ExtentBy.{ExtentBy}
 use Rattle.pe.specs.declared.header.ImageSectionHeader.{ImageSectionHeader}
-use Rattle.address_map.specs.declared.sections.Located.{Located}
-use Rattle.address_map.specs.declared.sections.Located.TheVariants as located
-
 -- a section by its number from 1, and an offset in it
-pub record Offset : Type 0 where
-  pub section : ℕ
-  pub offset : ℕ
+pub use Rattle.address_map.specs.declared.sections.Offset.{Offset}
 
 abbrev pub in_section : ℕ → ℕ → Offset
 in_section n o = record { section = n; offset = o }
-
-abbrev pub told_located : Located → Told Offset
-told_located (located.At n o) = value (in_section n o)
-told_located located.Nothing = nothing
-told_located (located.Refused why) = refused (number why)
-told_located located.TooLarge = refused 4
 
 -- the walk over the headers from place i on, while they begin at or before the address: the first whose extent holds it
 unfoldable pub walk : ExtentBy → ℕ → ℕ → List ImageSectionHeader → Told Offset

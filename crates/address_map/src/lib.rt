@@ -1,19 +1,25 @@
-// The address map: conversions between addresses and offsets of the actual image and of the original
-// one. Each takes the tables on its path, behind their marks, and refuses at the first step that fails.
+// The address map: conversions between addresses and offsets of the actual image and of the original one. Each reads
+// the tables on its path alone, and refuses at the first step that fails.
 #![tactic(auto)]
 
-ghost use Rattle.std.specs.Prelude.{◌≡◌};
-ghost use Rattle.lent.specs.Table.{if_present};
-ghost use Rattle.omap.specs.Lookup.{lookup_spec, told_looked};
-ghost use Rattle.address_map.specs.Sections.{in_section, section_spec, address_spec, told_located};
-ghost use Rattle.address_map.specs.Paths.{actual, cross_locate, place_cross, place_cross_locate};
+ghost use Rattle.std.specs.Prelude.{◌≡◌, is_some};
+ghost use Rattle.lent.specs.Table.{bytes_of};
+ghost use Rattle.omap.specs.Lookup.{lookup_spec};
+ghost use Rattle.address_map.specs.Sections.{in_section, section_spec, address_spec};
+ghost use Rattle.address_map.specs.Paths.{cross_locate, place_cross, place_cross_locate};
+ghost use Rattle.address_map.specs.Map.{actual_of};
+ghost use Rattle.address_map.specs.Told.{told_as, rva_of, internal_rva_of, offset_of, internal_offset_of};
 
+mod kinds;
+mod map;
 pub mod paths;
 pub mod sections;
 
-use crate::sections::Located;
-use omap::Looked;
-use pe::ExtentBy;
+pub use crate::kinds::{Address, Place};
+pub use crate::map::AddressMap;
+use crate::paths::{cross_locate, place_cross, place_cross_locate};
+use crate::sections::{get_section_offset, get_virtual_address};
+use lent::{SumRefusal, bytes_or_none};
 
 // An address in the actual image.
 #[derive(Clone, Copy)]
@@ -37,211 +43,158 @@ pub struct PdbInternalSectionOffset {
     pub section: u16,
 }
 
+// The conversions of the two sides stay apart: what they share is in paths.rt, and each says no more than its tables, in
+// one call. One generic conversion would need a type for each side and its tables, and be no plainer.
 impl Rva {
     // The address before the image was rearranged.
-    pub fn to_internal_rva(self, has_to_original: bool, to_original: &[u8]) -> Looked
-        ensures { told_looked result ≡ lookup_spec has_to_original to_original.now self.0 }
+    pub fn to_internal_rva(self, map: AddressMap) -> Result<Option<PdbInternalRva>, SumRefusal>
+        ensures { told_as internal_rva_of result
+            ≡ lookup_spec (is_some map.entry.to_original) (bytes_of map.entry.to_original) self.0 }
     {
-        omap::lookup(has_to_original, to_original, self.0)
+        let found = omap::lookup(map.to_original, self.0)?;
+        Ok(found.map(PdbInternalRva))
     }
 
     // The section and the offset in it.
-    pub fn to_section_offset<'s>(
-        self,
-        by: ExtentBy,
-        has_original: bool,
-        original: &'s [u8],
-        has_transformed: bool,
-        transformed: &'s [u8],
-    ) -> Located
-        ensures { told_located result ≡ section_spec by (actual has_original original.now has_transformed transformed.now) self.0 }
+    pub fn to_section_offset(self, map: AddressMap) -> Result<Option<SectionOffset>, SumRefusal>
+        ensures { told_as offset_of result
+            ≡ section_spec map.entry.extent_by (actual_of map.entry) self.0 }
     {
-        let sections = paths::actual_sections(has_original, original, has_transformed, transformed);
-        sections::get_section_offset(by, sections, self.0)
+        let found = get_section_offset(map.extent_by, map.actual_sections(), self.0)?;
+        Ok(found.map(SectionOffset::from))
     }
 
     // The section of the original image and the offset in it.
     pub fn to_internal_offset(
         self,
-        by: ExtentBy,
-        has_original: bool,
-        original: &[u8],
-        has_to_original: bool,
-        to_original: &[u8],
-    ) -> Located
-        ensures { told_located result
-            ≡ cross_locate by has_to_original to_original.now
-            (if_present has_original original.now) self.0 }
+        map: AddressMap,
+    ) -> Result<Option<PdbInternalSectionOffset>, SumRefusal>
+        ensures { told_as internal_offset_of result
+            ≡ cross_locate map.entry.extent_by (is_some map.entry.to_original) (bytes_of map.entry.to_original)
+            (bytes_of map.entry.original_sections) self.0 }
     {
-        let sections = lent::if_present(has_original, original);
-        paths::cross_locate(by, has_to_original, to_original, sections, self.0)
+        let original = bytes_or_none(map.original_sections);
+        let found = cross_locate(map.extent_by, map.to_original, original, self.0)?;
+        Ok(found.map(PdbInternalSectionOffset::from))
     }
 }
 
 impl PdbInternalRva {
     // The address in the actual image.
-    pub fn to_rva(self, has_to_transformed: bool, to_transformed: &[u8]) -> Looked
-        ensures { told_looked result ≡ lookup_spec has_to_transformed to_transformed.now self.0 }
+    pub fn to_rva(self, map: AddressMap) -> Result<Option<Rva>, SumRefusal>
+        ensures { told_as rva_of result
+            ≡ lookup_spec (is_some map.entry.to_transformed) (bytes_of map.entry.to_transformed) self.0 }
     {
-        omap::lookup(has_to_transformed, to_transformed, self.0)
+        let found = omap::lookup(map.to_transformed, self.0)?;
+        Ok(found.map(Rva))
     }
 
     // The section of the actual image and the offset in it.
-    pub fn to_section_offset<'s>(
-        self,
-        by: ExtentBy,
-        has_original: bool,
-        original: &'s [u8],
-        has_transformed: bool,
-        transformed: &'s [u8],
-        has_to_transformed: bool,
-        to_transformed: &[u8],
-    ) -> Located
-        ensures { told_located result
-            ≡ cross_locate by has_to_transformed to_transformed.now
-            (actual has_original original.now has_transformed transformed.now) self.0 }
+    pub fn to_section_offset(self, map: AddressMap) -> Result<Option<SectionOffset>, SumRefusal>
+        ensures { told_as offset_of result
+            ≡ cross_locate map.entry.extent_by (is_some map.entry.to_transformed) (bytes_of map.entry.to_transformed)
+            (actual_of map.entry) self.0 }
     {
-        let sections = paths::actual_sections(has_original, original, has_transformed, transformed);
-        paths::cross_locate(by, has_to_transformed, to_transformed, sections, self.0)
+        let actual = map.actual_sections();
+        let found = cross_locate(map.extent_by, map.to_transformed, actual, self.0)?;
+        Ok(found.map(SectionOffset::from))
     }
 
     // The section of the original image and the offset in it.
-    pub fn to_internal_offset(self, by: ExtentBy, has_original: bool, original: &[u8]) -> Located
-        ensures { told_located result ≡ section_spec by (if_present has_original original.now) self.0 }
+    pub fn to_internal_offset(
+        self,
+        map: AddressMap,
+    ) -> Result<Option<PdbInternalSectionOffset>, SumRefusal>
+        ensures { told_as internal_offset_of result
+            ≡ section_spec map.entry.extent_by (bytes_of map.entry.original_sections) self.0 }
     {
-        let sections = lent::if_present(has_original, original);
-        sections::get_section_offset(by, sections, self.0)
+        let original = bytes_or_none(map.original_sections);
+        let found = get_section_offset(map.extent_by, original, self.0)?;
+        Ok(found.map(PdbInternalSectionOffset::from))
     }
 }
 
 impl SectionOffset {
     // The address in the actual image.
-    pub fn to_rva<'s>(
-        self,
-        has_original: bool,
-        original: &'s [u8],
-        has_transformed: bool,
-        transformed: &'s [u8],
-    ) -> Looked
-        ensures { told_looked result
-            ≡ address_spec (actual has_original original.now has_transformed transformed.now)
-            (in_section self.section self.offset) }
+    pub fn to_rva(self, map: AddressMap) -> Result<Option<Rva>, SumRefusal>
+        ensures { told_as rva_of result
+            ≡ address_spec (actual_of map.entry) (in_section self.section self.offset) }
     {
-        let sections = paths::actual_sections(has_original, original, has_transformed, transformed);
-        sections::get_virtual_address(sections, self.section, self.offset)
+        let found = get_virtual_address(map.actual_sections(), self.section, self.offset)?;
+        Ok(found.map(Rva))
     }
 
     // The address before the image was rearranged.
-    pub fn to_internal_rva<'s>(
-        self,
-        has_original: bool,
-        original: &'s [u8],
-        has_transformed: bool,
-        transformed: &'s [u8],
-        has_to_original: bool,
-        to_original: &[u8],
-    ) -> Looked
-        ensures { told_looked result
-            ≡ place_cross (actual has_original original.now has_transformed transformed.now)
-            has_to_original to_original.now (in_section self.section self.offset) }
+    pub fn to_internal_rva(self, map: AddressMap) -> Result<Option<PdbInternalRva>, SumRefusal>
+        ensures { told_as internal_rva_of result
+            ≡ place_cross (actual_of map.entry) (is_some map.entry.to_original) (bytes_of map.entry.to_original)
+            (in_section self.section self.offset) }
     {
-        let sections = paths::actual_sections(has_original, original, has_transformed, transformed);
-        paths::place_cross(
-            sections,
-            has_to_original,
-            to_original,
-            self.section,
-            self.offset,
-        )
+        let found = place_cross(map.actual_sections(), map.to_original, self.place())?;
+        Ok(found.map(PdbInternalRva))
     }
 
     // The section of the original image and the offset in it; with no transformed sections, the same.
     pub fn to_internal_offset(
         self,
-        by: ExtentBy,
-        has_original: bool,
-        original: &[u8],
-        has_transformed: bool,
-        transformed: &[u8],
-        has_to_original: bool,
-        to_original: &[u8],
-    ) -> Located
-        ensures { told_located result
-            ≡ place_cross_locate by has_transformed transformed.now has_to_original
-            to_original.now (if_present has_original original.now)
+        map: AddressMap,
+    ) -> Result<Option<PdbInternalSectionOffset>, SumRefusal>
+        ensures { told_as internal_offset_of result
+            ≡ place_cross_locate map.entry.extent_by (is_some map.entry.transformed_sections)
+            (bytes_of map.entry.transformed_sections) (is_some map.entry.to_original)
+            (bytes_of map.entry.to_original) (bytes_of map.entry.original_sections)
             (in_section self.section self.offset) }
     {
-        let sections = lent::if_present(has_original, original);
-        paths::place_cross_locate(
-            by,
-            has_transformed,
-            transformed,
-            has_to_original,
-            to_original,
-            sections,
-            self.section,
-            self.offset,
-        )
+        let found = place_cross_locate(
+            map.extent_by,
+            map.transformed_sections.is_some(),
+            bytes_or_none(map.transformed_sections),
+            map.to_original,
+            bytes_or_none(map.original_sections),
+            self.place(),
+        )?;
+        Ok(found.map(PdbInternalSectionOffset::from))
     }
 }
 
 impl PdbInternalSectionOffset {
     // The address in the actual image.
-    pub fn to_rva(
-        self,
-        has_original: bool,
-        original: &[u8],
-        has_to_transformed: bool,
-        to_transformed: &[u8],
-    ) -> Looked
-        ensures { told_looked result
-            ≡ place_cross (if_present has_original original.now) has_to_transformed
-            to_transformed.now (in_section self.section self.offset) }
+    pub fn to_rva(self, map: AddressMap) -> Result<Option<Rva>, SumRefusal>
+        ensures { told_as rva_of result
+            ≡ place_cross (bytes_of map.entry.original_sections) (is_some map.entry.to_transformed)
+            (bytes_of map.entry.to_transformed) (in_section self.section self.offset) }
     {
-        let sections = lent::if_present(has_original, original);
-        paths::place_cross(
-            sections,
-            has_to_transformed,
-            to_transformed,
-            self.section,
-            self.offset,
-        )
+        let original = bytes_or_none(map.original_sections);
+        let found = place_cross(original, map.to_transformed, self.place())?;
+        Ok(found.map(Rva))
     }
 
     // The address before the image was rearranged.
-    pub fn to_internal_rva(self, has_original: bool, original: &[u8]) -> Looked
-        ensures { told_looked result ≡ address_spec (if_present has_original original.now) (in_section self.section self.offset) }
+    pub fn to_internal_rva(self, map: AddressMap) -> Result<Option<PdbInternalRva>, SumRefusal>
+        ensures { told_as internal_rva_of result
+            ≡ address_spec (bytes_of map.entry.original_sections) (in_section self.section self.offset) }
     {
-        let sections = lent::if_present(has_original, original);
-        sections::get_virtual_address(sections, self.section, self.offset)
+        let original = bytes_or_none(map.original_sections);
+        let found = get_virtual_address(original, self.section, self.offset)?;
+        Ok(found.map(PdbInternalRva))
     }
 
     // The section of the actual image and the offset in it; with no transformed sections, the same.
-    pub fn to_section_offset(
-        self,
-        by: ExtentBy,
-        has_original: bool,
-        original: &[u8],
-        has_transformed: bool,
-        transformed: &[u8],
-        has_to_transformed: bool,
-        to_transformed: &[u8],
-    ) -> Located
-        ensures { told_located result
-            ≡ place_cross_locate by has_transformed (if_present has_original original.now)
-            has_to_transformed to_transformed.now transformed.now
+    pub fn to_section_offset(self, map: AddressMap) -> Result<Option<SectionOffset>, SumRefusal>
+        ensures { told_as offset_of result
+            ≡ place_cross_locate map.entry.extent_by (is_some map.entry.transformed_sections)
+            (bytes_of map.entry.original_sections) (is_some map.entry.to_transformed)
+            (bytes_of map.entry.to_transformed) (bytes_of map.entry.transformed_sections)
             (in_section self.section self.offset) }
     {
-        let sections = lent::if_present(has_original, original);
-        paths::place_cross_locate(
-            by,
-            has_transformed,
-            sections,
-            has_to_transformed,
-            to_transformed,
-            transformed,
-            self.section,
-            self.offset,
-        )
+        let found = place_cross_locate(
+            map.extent_by,
+            map.transformed_sections.is_some(),
+            bytes_or_none(map.original_sections),
+            map.to_transformed,
+            bytes_or_none(map.transformed_sections),
+            self.place(),
+        )?;
+        Ok(found.map(SectionOffset::from))
     }
 }

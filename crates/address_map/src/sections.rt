@@ -1,69 +1,65 @@
 // From an address to a section and an offset in it, and back.
 ghost use Rattle.std.specs.Prelude.{◌≡◌};
-ghost use Rattle.omap.specs.Lookup.{told_looked};
-ghost use Rattle.address_map.specs.Sections.{in_section, told_located, section_spec, address_spec};
+ghost use Rattle.lent.specs.Paper.{sum_number, told};
+ghost use Rattle.address_map.specs.Sections.{in_section, section_spec, address_spec};
 
-use lent::{Checked, Refusal};
-use omap::Looked;
+use lent::{SECTIONS, SumRefusal};
 use pe::ExtentBy;
 
-// Where an address lies.
+// A section's number, from 1, and an offset in it.
 #[derive(Clone, Copy)]
-pub enum Located {
-    // The section's number, from 1, and the offset in it.
-    At(u16, u32),
-    // In no section.
-    Nothing,
-    Refused(Refusal),
-    // Refusal 4: a sum on the way does not fit 32 bits.
-    TooLarge,
+pub struct Offset {
+    pub section: u16,
+    pub offset: u32,
 }
 
-// The section of an address, and the offset in it. The headers are walked while they begin at or
-// before the address.
-pub fn get_section_offset(by: ExtentBy, sections: &[u8], address: u32) -> Located
-    ensures { told_located result ≡ section_spec by sections.now address }
+// The section of an address, and the offset in it: none where it lies in no section. The headers are walked while they
+// begin at or before the address.
+#[tactic(auto, using(crate::proofs::Walks::walking), unfolding(crate::specs::Sections::section_spec))]
+pub fn get_section_offset(
+    by: ExtentBy,
+    sections: &[u8],
+    address: u32,
+) -> Result<Option<Offset>, SumRefusal>
+    ensures { told sum_number result ≡ section_spec by sections.now address }
 {
-    let shaped = lent::section_shape(sections);
-    if let Checked::Refused(why) = shaped {
-        return Located::Refused(why);
-    }
-    let n = sections.len() / 40;
-    let mut i = 0;
-    while i < n {
-        let start = pe::virtual_address_at(sections, i);
+    SECTIONS.shape(sections)?;
+    for place in 0..sections.len() / SECTIONS.width {
+        let start = pe::virtual_address_at(sections, place);
         if address < start {
-            return Located::Nothing;
+            return Ok(None);
         }
-        let into = address - start;
-        if into < pe::extent_at(by, sections, i) {
-            let number = (i + 1) as u16;
-            return Located::At(number, into);
+        let offset = address - start;
+        if offset < pe::extent_at(by, sections, place) {
+            let section = (place + 1) as u16;
+            return Ok(Some(Offset { section, offset }));
         }
-        i += 1;
     }
-    Located::Nothing
+    Ok(None)
 }
 
-// The address of an offset in a section. The offset is not compared with the section's size.
-pub fn get_virtual_address(sections: &[u8], section: u16, offset: u32) -> Looked
-    ensures { told_looked result ≡ address_spec sections.now (in_section section offset) }
+// The address of an offset in a section: none where there is no such section. The offset is not compared with the
+// section's size.
+#[tactic(auto, unfolding(crate::specs::Sections::address_spec))]
+pub fn get_virtual_address(
+    sections: &[u8],
+    section: u16,
+    offset: u32,
+) -> Result<Option<u32>, SumRefusal>
+    ensures { told sum_number result ≡ address_spec sections.now (in_section section offset) }
 {
-    let shaped = lent::section_shape(sections);
-    if let Checked::Refused(why) = shaped {
-        return Looked::Refused(why);
-    }
+    SECTIONS.shape(sections)?;
     if section == 0 {
-        return Looked::Nothing;
+        return Ok(None);
     }
     let place = (section as usize) - 1;
-    if place >= sections.len() / 40 {
-        return Looked::Nothing;
+    if place >= sections.len() / SECTIONS.width {
+        return Ok(None);
     }
     let start = pe::virtual_address_at(sections, place);
     if offset <= 4294967295 - start {
-        Looked::At(start + offset)
+        Ok(Some(start + offset))
     } else {
-        Looked::TooLarge
+        Err(SumRefusal::TooLarge)
     }
 }

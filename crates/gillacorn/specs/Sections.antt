@@ -1,7 +1,7 @@
 -- What the face shows of a place in a section, and how it is told which size is the extent.
 use Rattle.std.specs.Prelude.{Bool, true, false}
 use Rattle.lent.specs.Paper.{Told, value, nothing, refused}
-use Rattle.address_map.specs.Sections.{Offset}
+use Rattle.address_map.specs.declared.sections.Offset.{Offset}
 use Rattle.pe.specs.declared.extent.ExtentBy.{ExtentBy}
 use Rattle.pe.specs.declared.extent.ExtentBy.TheVariants.{MemorySize, RawSize}
 use Rattle.gillacorn.specs.declared.sections.OffsetAnswer.{OffsetAnswer}

@@ -1,13 +1,24 @@
 // The conversions of an address map that end in a section. Each takes the choice of the extent, and is
-// lent all four tables of the map, behind their marks.
+// lent all four tables of the map, behind their marks. C passes them one by one, so here they are no struct.
+#![tactic(auto, using(address_map::proofs::Marked::marked_tables))]
+
 ghost use Rattle.std.specs.Prelude.{◌≡◌};
 ghost use Rattle.lent.specs.Table.{if_present};
 ghost use Rattle.address_map.specs.Sections.{in_section, section_spec};
 ghost use Rattle.address_map.specs.Paths.{actual, cross_locate, place_cross_locate};
+ghost use Rattle.address_map.specs.Told.{told_as};
 ghost use Rattle.gillacorn.specs.Sections.{extent_by, offset_answer};
 
-use crate::sections::{OffsetAnswer, extent_by, offset_answer};
-use address_map::{PdbInternalRva, PdbInternalSectionOffset, Rva, SectionOffset};
+use crate::sections::{OffsetAnswer, extent_by, map_of, offset_answer};
+use address_map::{PdbInternalRva, PdbInternalSectionOffset, Place, Rva, SectionOffset};
+use lent::SumRefusal;
+
+// An offset in a section of either side as the face shows it.
+fn place_answer<P: Place>(answer: Result<Option<P>, SumRefusal>) -> OffsetAnswer
+    ensures { result ≡ offset_answer (told_as P.place_of answer) }
+{
+    offset_answer(answer.map(|found| found.map(P::place)))
+}
 
 pub fn gillacorn_rva_to_section_offset_by<'s>(
     by_raw_size: bool,
@@ -23,14 +34,18 @@ pub fn gillacorn_rva_to_section_offset_by<'s>(
 ) -> OffsetAnswer
     ensures { result ≡ offset_answer (section_spec (extent_by by_raw_size) (actual has_original original.now has_transformed transformed.now) rva) }
 {
-    let by = extent_by(by_raw_size);
-    offset_answer(Rva(rva).to_section_offset(
-        by,
+    let map = map_of(
+        extent_by(by_raw_size),
         has_original,
         original,
         has_transformed,
         transformed,
-    ))
+        has_to_original,
+        to_original,
+        has_to_transformed,
+        to_transformed,
+    );
+    place_answer(Rva(rva).to_section_offset(map))
 }
 
 pub fn gillacorn_rva_to_internal_offset_by<'s>(
@@ -47,14 +62,18 @@ pub fn gillacorn_rva_to_internal_offset_by<'s>(
 ) -> OffsetAnswer
     ensures { result ≡ offset_answer (cross_locate (extent_by by_raw_size) has_to_original to_original.now (if_present has_original original.now) rva) }
 {
-    let by = extent_by(by_raw_size);
-    offset_answer(Rva(rva).to_internal_offset(
-        by,
+    let map = map_of(
+        extent_by(by_raw_size),
         has_original,
         original,
+        has_transformed,
+        transformed,
         has_to_original,
         to_original,
-    ))
+        has_to_transformed,
+        to_transformed,
+    );
+    place_answer(Rva(rva).to_internal_offset(map))
 }
 
 pub fn gillacorn_internal_rva_to_section_offset_by<'s>(
@@ -72,16 +91,18 @@ pub fn gillacorn_internal_rva_to_section_offset_by<'s>(
     ensures { result ≡ offset_answer (cross_locate (extent_by by_raw_size) has_to_transformed to_transformed.now
         (actual has_original original.now has_transformed transformed.now) rva) }
 {
-    let by = extent_by(by_raw_size);
-    offset_answer(PdbInternalRva(rva).to_section_offset(
-        by,
+    let map = map_of(
+        extent_by(by_raw_size),
         has_original,
         original,
         has_transformed,
         transformed,
+        has_to_original,
+        to_original,
         has_to_transformed,
         to_transformed,
-    ))
+    );
+    place_answer(PdbInternalRva(rva).to_section_offset(map))
 }
 
 pub fn gillacorn_internal_rva_to_internal_offset_by<'s>(
@@ -98,8 +119,18 @@ pub fn gillacorn_internal_rva_to_internal_offset_by<'s>(
 ) -> OffsetAnswer
     ensures { result ≡ offset_answer (section_spec (extent_by by_raw_size) (if_present has_original original.now) rva) }
 {
-    let by = extent_by(by_raw_size);
-    offset_answer(PdbInternalRva(rva).to_internal_offset(by, has_original, original))
+    let map = map_of(
+        extent_by(by_raw_size),
+        has_original,
+        original,
+        has_transformed,
+        transformed,
+        has_to_original,
+        to_original,
+        has_to_transformed,
+        to_transformed,
+    );
+    place_answer(PdbInternalRva(rva).to_internal_offset(map))
 }
 
 pub fn gillacorn_offset_to_internal_offset_by<'s>(
@@ -118,16 +149,18 @@ pub fn gillacorn_offset_to_internal_offset_by<'s>(
     ensures { result ≡ offset_answer (place_cross_locate (extent_by by_raw_size) has_transformed transformed.now has_to_original
         to_original.now (if_present has_original original.now) (in_section section offset)) }
 {
-    let by = extent_by(by_raw_size);
-    offset_answer(SectionOffset { offset, section }.to_internal_offset(
-        by,
+    let map = map_of(
+        extent_by(by_raw_size),
         has_original,
         original,
         has_transformed,
         transformed,
         has_to_original,
         to_original,
-    ))
+        has_to_transformed,
+        to_transformed,
+    );
+    place_answer(SectionOffset { offset, section }.to_internal_offset(map))
 }
 
 pub fn gillacorn_internal_offset_to_section_offset_by<'s>(
@@ -146,14 +179,16 @@ pub fn gillacorn_internal_offset_to_section_offset_by<'s>(
     ensures { result ≡ offset_answer (place_cross_locate (extent_by by_raw_size) has_transformed (if_present has_original original.now)
         has_to_transformed to_transformed.now transformed.now (in_section section offset)) }
 {
-    let by = extent_by(by_raw_size);
-    offset_answer(PdbInternalSectionOffset { offset, section }.to_section_offset(
-        by,
+    let map = map_of(
+        extent_by(by_raw_size),
         has_original,
         original,
         has_transformed,
         transformed,
+        has_to_original,
+        to_original,
         has_to_transformed,
         to_transformed,
-    ))
+    );
+    place_answer(PdbInternalSectionOffset { offset, section }.to_section_offset(map))
 }

@@ -1,14 +1,17 @@
-// From an address to a section and an offset in it, and back.
-ghost use Rattle.std.specs.Prelude.{◌≡◌};
-ghost use Rattle.address_map.specs.Sections.{in_section, section_spec, address_spec, told_located};
+// From an address to a section and an offset in it, and back; and the address map that the conversions are lent.
+ghost use Rattle.std.specs.Prelude.{◌≡◌, cond, Some, None};
+ghost use Rattle.lent.specs.Paper.{sum_number, told};
+ghost use Rattle.address_map.specs.Sections.{in_section, section_spec, address_spec};
 ghost use Rattle.gillacorn.specs.Code.{value_answer};
 ghost use Rattle.gillacorn.specs.Sections.{extent_by, offset_answer};
 
 use crate::code::{ValueAnswer, value_answer};
-use address_map::sections::{Located, get_section_offset, get_virtual_address};
+use address_map::AddressMap;
+use address_map::sections::{Offset, get_section_offset, get_virtual_address};
+use lent::{Numbered, SumRefusal, if_present};
 use pe::ExtentBy;
 
-// A section, from 1, and an offset in it, beside the code.
+// A section, from 1, and an offset in it, beside the code: C has neither Option nor Result.
 #[repr(C)]
 #[derive(Clone, Copy)]
 pub struct OffsetAnswer {
@@ -18,18 +21,17 @@ pub struct OffsetAnswer {
 }
 
 // A place in a section as the face shows it.
-pub fn offset_answer(located: Located) -> OffsetAnswer
-    ensures { result ≡ offset_answer (told_located located) }
+pub fn offset_answer(answer: Result<Option<Offset>, SumRefusal>) -> OffsetAnswer
+    ensures { result ≡ offset_answer (told sum_number answer) }
 {
-    match located {
-        Located::At(section, offset) => OffsetAnswer {
+    match answer {
+        Ok(Some(Offset { section, offset })) => OffsetAnswer {
             code: 0,
             section,
             offset,
         },
-        Located::Nothing => no_offset(255),
-        Located::Refused(why) => no_offset(lent::refusal_number(why)),
-        Located::TooLarge => no_offset(lent::TOO_LARGE),
+        Ok(None) => no_offset(255),
+        Err(why) => no_offset(why.number()),
     }
 }
 
@@ -53,6 +55,35 @@ pub fn extent_by(by_raw_size: bool) -> ExtentBy
         return ExtentBy::RawSize;
     }
     ExtentBy::MemorySize
+}
+
+// The address map whose tables C lends behind their marks.
+pub(crate) fn map_of<'t>(
+    extent_by: ExtentBy,
+    has_original: bool,
+    original: &'t [u8],
+    has_transformed: bool,
+    transformed: &'t [u8],
+    has_to_original: bool,
+    to_original: &'t [u8],
+    has_to_transformed: bool,
+    to_transformed: &'t [u8],
+) -> AddressMap<'t>
+    ensures { result ≡ record {
+      original_sections = cond has_original (Some original.entry) None;
+      transformed_sections = cond has_transformed (Some transformed.entry) None;
+      to_original = cond has_to_original (Some to_original.entry) None;
+      to_transformed = cond has_to_transformed (Some to_transformed.entry) None;
+      extent_by = extent_by;
+    } }
+{
+    AddressMap {
+        original_sections: if_present(has_original, original),
+        transformed_sections: if_present(has_transformed, transformed),
+        to_original: if_present(has_to_original, to_original),
+        to_transformed: if_present(has_to_transformed, to_transformed),
+        extent_by,
+    }
 }
 
 pub fn gillacorn_section_offset_by(by_raw_size: bool, sections: &[u8], address: u32) -> OffsetAnswer

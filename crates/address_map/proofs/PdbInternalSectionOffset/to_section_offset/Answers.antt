@@ -1,6 +1,0 @@
-use mathlib.Core.Path.{◌∙◌}
-use Rattle.address_map.proofs.PdbInternalSectionOffset.to_section_offset.Goals as goal
-
-pub returns : goal.returns
-returns c =
-    c.place_cross_locate.ensures ∙ rw c.if_present-sections.ensures
