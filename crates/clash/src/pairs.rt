@@ -22,6 +22,7 @@ fn least_pair(window: Pieces) -> Option<Pair>
     requires { is_some window.table ≡ true }
     ensures { optional result ≡ clash_of (ahead window.entry) }
 {
+    // No `for`, which would keep to itself what is still to come: a piece is compared with that.
     let mut later = window;
     while let Some(piece) = later.next() {
         if let Some(shared) = first_shared(later, piece) {
