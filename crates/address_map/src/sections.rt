@@ -57,9 +57,6 @@ pub fn get_virtual_address(
         return Ok(None);
     }
     let start = pe::virtual_address_at(sections, place);
-    if offset <= 4294967295 - start {
-        Ok(Some(start + offset))
-    } else {
-        Err(SumRefusal::TooLarge)
-    }
+    let address = start.checked_add(offset).ok_or(SumRefusal::TooLarge)?;
+    Ok(Some(address))
 }

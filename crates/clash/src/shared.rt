@@ -21,7 +21,8 @@ pub struct Shared {
 
 // The address of a piece that goes to one of its targets.
 pub fn source_of(piece: Piece, target: u64) -> u32
-    requires { (piece.to ≤ target) × (target < piece.to + piece.size) }
+    requires to { (piece.to ≤ target) × (target < piece.to + piece.size) }
+    requires inside { piece.at + piece.size ≤ 4294967295 }
     ensures { result ≡ piece.at + (target - piece.to) }
 {
     (piece.at + (target - piece.to)) as u32
@@ -55,6 +56,7 @@ fn better(window: Pieces, table: &[u8], i: usize, from: u64, target: u64, best: 
 // The first of the targets of a piece to which one of the records that a walk still has to come takes an address below
 // the window's end. A record costs one load and one comparison if its target is not below what is found already.
 pub fn first_shared(window: Pieces, piece: Piece) -> Option<Shared>
+    requires { 0 < piece.size }
     ensures { told_shared result
         ≡ first_shared (pieces 0 window.entry.b (rest (bytes_of window.entry.table) window.entry.next)) piece.to piece.size }
 {

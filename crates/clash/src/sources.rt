@@ -1,5 +1,5 @@
 // The way back from a translation.
-ghost use Rattle.std.specs.Prelude.{◌≡◌, List, ◌∷◌, ◌++◌, ℕ};
+ghost use Rattle.std.specs.Prelude.{◌≡◌, ◌≤◌, ◌+◌, List, ◌∷◌, ◌++◌, ℕ};
 ghost use Rattle.lent.specs.Words.{put};
 ghost use Rattle.omap.specs.Ahead.{ahead};
 ghost use Rattle.omap.specs.Told.{told_piece};
@@ -34,6 +34,7 @@ fn with_source(kept: Option<Sources>, x: u32) -> Sources
 
 // The sources with the one that a piece has of t, if it has one.
 fn with_piece(kept: Option<Sources>, piece: Piece, t: u32) -> Option<Sources>
+    requires { piece.at + piece.size ≤ 4294967295 }
     ensures { (l : List ℕ) → least_two (so_far kept ++ put (source_in t (told_piece piece)) l) ≡ least_two (so_far result ++ l) }
 {
     let target = t as u64;

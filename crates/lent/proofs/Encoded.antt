@@ -3,14 +3,12 @@
 use mathlib.Core.Path.{◌≡◌, refl, ap, ◌∙◌}
 use Prim.Native.Nat.{ℕ, zero, suc, ◌+◌, ◌*◌, ◌/◌, ◌%◌, ◌^◌, ◌≤◌, ◌<◌}
 use native.Mathlib.Nat.{pow-suc, pow-zero, suc-add, zero-add}
-use native.Mathlib.Numerals.{add-one, add-two}
 use native.Mathlib.Omega.{arith}
 use mathlib.Core.List.{List, [], ◌∷◌, ◌++◌}
-use lib.ListN.{length, get_or, set, take, drop}
+use lib.ListN.{length, get_or, take, drop}
 use lib.Seq.{drop-cons}
 use Rattle.lent.specs.Le.{le_at, le_bytes}
-use Rattle.lent.specs.Room.{Wrote}
-use Rattle.lent.proofs.Field.{Bytes, add-three}
+use Rattle.lent.proofs.Field.{Bytes}
 
 pub length-le : (w n : ℕ) → length (le_bytes w n) ≡ w
 unfolding le_bytes
@@ -49,12 +47,11 @@ le-written (suc w) s at b h =
     rw (drop-cons s at 0 (omega arith), m, d)
     (ap (λ (l : List ℕ). get_or s at 0 ∷ l) (le-written w s (suc at) b (omega arith)))
 
--- the four bytes of a number, stored one by one
-pub four_stored : (n : ℕ) (out : List ℕ) (at : ℕ) → n < 4294967296 → at + 4 ≤ length out
-    → Wrote (le_bytes 4 n) out at (at + 4)
-    (set (set (set (set out at (n % 256)) (at + 1) (n / 256 % 256)) (at + 2) (n / 65536 % 256)) (at + 3) (n / 16777216))
+-- the four bytes of a number, as `to_le_bytes` reckons them
+pub four_stored : (n : ℕ)
+    → (n % 256 ∷ (n / 256 % 256 ∷ (n / 65536 % 256 ∷ (n / 16777216 % 256 ∷ [])))) ≡ le_bytes 4 n
 unfolding le_bytes
-four_stored n out at h room =
+four_stored n =
     let third : n / 256 / 256 ≡ n / 65536 = omega arith in
-    let fourth : n / 65536 / 256 % 256 ≡ n / 16777216 = omega arith in
-    record { place = refl; bytes = rw (third, fourth, add-one, add-two, add-three at); room = room }
+    let fourth : n / 65536 / 256 ≡ n / 16777216 = omega arith in
+    rw (third, fourth) refl

@@ -5,11 +5,10 @@ use mathlib.Core.Logic.{⊎_elim}
 use Prim.Native.Nat.{ℕ, zero, suc, ◌+◌, ◌-◌, ◌≤◌, ◌<◌}
 use native.Mathlib.Nat.{eq-or-lt_of_le}
 use native.Mathlib.Omega.{arith}
-use mathlib.Core.Bool.{Bool, true, false, cond, ◌&&◌, and-false}
+use mathlib.Core.Bool.{Bool, true, false, ◌&&◌}
 use mathlib.Core.List.{List, [], ◌∷◌}
-use lib.Bits.{bit_or, or_step, or_zero_r}
-use lib.Dec.{ltb, eqb}
-use borrow.Author.Tests.{ne_eqb, ltb-true}
+use lib.Dec.{ltb}
+use borrow.Author.Tests.{ltb-true}
 use Rattle.lent.specs.Table.{listed}
 use Rattle.lent.specs.Order.{rising_after, rising}
 use Rattle.lent.proofs.Logic.{and_left, and_right}
@@ -21,21 +20,18 @@ unfolding rising_after rising
 after-rising p [] r = refl
 after-rising p (x ∷ l) r = and_right (ltb p x) (rising_after x l) r
 
-one_of_two : (fault : ℕ) → eqb (bit_or fault 1) 0 ≡ false
-one_of_two fault = ne_eqb (bit_or fault 1) 0 (λ z. omega (arith, or_step fault 1))
-
-regrouped : (fault : ℕ) (t u : Bool) → (eqb fault 0 && (t && u)) ≡ (eqb (bit_or fault (cond t 0 1)) 0 && u)
-regrouped fault true u = rw (or_zero_r fault)
-regrouped fault false u = rw (one_of_two fault, and-false (eqb fault 0))
+regrouped : (r t u : Bool) → (r && (t && u)) ≡ ((r && t) && u)
+regrouped true t u = refl
+regrouped false t u = refl
 
 module _ (f : ℕ → ℕ) where
   module _ (i n p : ℕ) (h : i < n) where
-    -- the order of the numbers left, by the first of them; a fault, once found, stays
-    pub after-step : (fault : ℕ) → (eqb fault 0 && rising_after p (listed f i (n - i))) ≡ (eqb
-        (bit_or fault (cond (ltb p (f i)) 0 1)) 0 && rising_after (f i) (listed f (i + 1) (n - (i + 1))))
+    -- the order of the numbers left, by the first of them; what has not risen once stays so
+    pub after-step : (rises : Bool) → (rises && rising_after p (listed f i (n - i)))
+        ≡ ((rises && ltb p (f i)) && rising_after (f i) (listed f (i + 1) (n - (i + 1))))
     unfolding rising_after
-    after-step fault = rw (listed-step f i n h)
-        (regrouped fault (ltb p (f i)) (rising_after (f i) (listed f (i + 1) (n - (i + 1)))))
+    after-step rises = rw (listed-step f i n h)
+        (regrouped rises (ltb p (f i)) (rising_after (f i) (listed f (i + 1) (n - (i + 1)))))
 
   -- the order of all is that of those after the first
   pub rising-first : (n : ℕ) → 0 < n → rising (listed f 0 n) ≡ rising_after (f 0) (listed f 1 (n - 1))

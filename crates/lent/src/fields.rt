@@ -2,19 +2,13 @@
 ghost use Rattle.std.specs.Prelude.{◌≡◌, ◌+◌, ◌≤◌, ◌<◌, length};
 ghost use Rattle.lent.specs.Le.{le_at};
 
-fn wide(x: u8) -> u64
-    ensures { (result ≡ x) × (result < 256) }
-{
-    x as u64
-}
-
-// The two bytes at `at`. A flat sum, which becomes one load wherever it is inlined.
+// The two bytes at `at`, which become one load wherever this is inlined.
 #[tactic(auto, using(crate::proofs::Field::two_bytes))]
 pub fn u16_at(s: &[u8], at: usize) -> u16
     requires { at + 2 ≤ length s.now }
     ensures { result ≡ le_at 2 s.now at }
 {
-    (wide(s[at]) + wide(s[at + 1]) * 256) as u16
+    u16::from_le_bytes([s[at], s[at + 1]])
 }
 
 // The four bytes at `at`.
@@ -23,8 +17,5 @@ pub fn u32_at(s: &[u8], at: usize) -> u32
     requires { at + 4 ≤ length s.now }
     ensures { result ≡ le_at 4 s.now at }
 {
-    (wide(s[at])
-        + wide(s[at + 1]) * 256
-        + wide(s[at + 2]) * 65536
-        + wide(s[at + 3]) * 16777216) as u32
+    u32::from_le_bytes([s[at], s[at + 1], s[at + 2], s[at + 3]])
 }

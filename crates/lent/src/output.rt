@@ -21,9 +21,5 @@ pub fn put_u32(value: u32, out: &mut [u8], at: usize) -> usize
     ensures wrote { Wrote (le_bytes 4 value) out.old at result out.new }
     ensures value { result ≡ at + 4 }
 {
-    out[at] = (value % 256) as u8;
-    out[at + 1] = (value / 256 % 256) as u8;
-    out[at + 2] = (value / 65536 % 256) as u8;
-    out[at + 3] = (value / 16777216) as u8;
-    at + 4
+    put_bytes(&value.to_le_bytes(), out, at)
 }

@@ -55,6 +55,7 @@ pub fn bytes_or_none(table: Option<&[u8]>) -> &[u8]
 }
 
 // Whether the length of a table of records of `width` bytes, at most `most` of them, is right.
+// It and `in_order` stand beside `Kind`'s methods, since docs/PROMISES.md names them, for any width.
 #[tactic(auto, unfolding(crate::specs::Table::shape_fault))]
 pub fn shape(table: &[u8], width: usize, most: usize) -> Result<(), Refusal>
     requires { 0 < width }
@@ -69,13 +70,6 @@ pub fn shape(table: &[u8], width: usize, most: usize) -> Result<(), Refusal>
     Ok(())
 }
 
-// 1 where a key is not above the one before it.
-fn not_above(before: u32, key: u32) -> u32
-    ensures { result ≡ cond (ltb before key) 0 1 }
-{
-    if before < key { 0 } else { 1 }
-}
-
 // Whether each key of a table is greater than the one before it. The loop has no way out in its middle,
 // so that several records are compared at a time.
 #[tactic(auto, using(crate::proofs::Place::inside))]
@@ -87,14 +81,14 @@ pub fn in_order(table: &[u8], width: usize) -> bool
     if n == 0 {
         return true;
     }
-    let mut fault = 0;
+    let mut rises = true;
     let mut before = u32_at(table, 0);
     for i in 1..n {
         let key = u32_at(table, width * i);
-        fault |= not_above(before, key);
+        rises &= before < key;
         before = key;
     }
-    fault == 0
+    rises
 }
 
 impl Kind {

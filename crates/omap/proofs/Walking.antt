@@ -93,12 +93,15 @@ module _ (s : List ℕ) (a b j : ℕ) (h : j < length s / 8) (i : ℕ)
       here : part_at s a b j ≡ some (between (entry_at s j) lo hi)
       here = rw (lo-is, hi-is) (piece-some a b (entry_at s j) (next_of (rest s (j + 1))) (omega arith) z)
 
-      pub walk-found : i ≤ j → Found true s a b i (between (entry_at s j) lo hi) (j + 1)
-      walk-found m =
+      pub walk-found : i ≤ j → b ≤ 4294967295 → Found true s a b i (between (entry_at s j) lo hi) (j + 1)
+      walk-found m short =
           let e : j + 1 - 1 ≡ j = omega arith in
           record {
             first = same ∙ step-some s a b j h (between (entry_at s j) lo hi) here;
             owned = ap (part_at s a b) e ∙ here;
+            some-of-it = omega arith;
+            inside = omega arith;
+            short = short;
             further = omega arith;
           }
 
@@ -123,6 +126,9 @@ module _ (s : List ℕ) (a b : ℕ) where
       rw o (record {
         first = rw p;
         owned = p;
+        some-of-it = omega arith;
+        inside = omega arith;
+        short = l;
         further = omega arith;
       })
 

@@ -34,4 +34,7 @@ Begins s a r = (b : ℕ) → pieces a b (records s) ≡ pieces a b (rest s r)
 pub record Found (present : Bool) (s : List ℕ) (a b i : ℕ) (p : Piece) (n : ℕ) : Type 0 where
   pub first : left present s a b i ≡ p ∷ left present s a b n
   pub owned : part_before present s a b n ≡ some p
+  pub some-of-it : 0 < p.size
+  pub inside : p.at + p.size ≤ b
+  pub short : b ≤ 4294967295
   pub further : i < n

@@ -6,7 +6,8 @@ ghost use Rattle.omap.specs.Records.{rest};
 ghost use Rattle.omap.specs.Refusals.{step_number};
 ghost use Rattle.omap.specs.Step.{start_spec, told_step, step_spec};
 ghost use Rattle.omap.specs.Turn.{turn_with};
-ghost use Rattle.omap.specs.Turned.{next_turn, turned_by};
+ghost use Rattle.omap.specs.Turned.{advanced, next_turn, turned_by};
+ghost use Rattle.omap.specs.declared.cursor.StepRefusal.TheVariants.{Table};
 
 use crate::lookups::{Entry, entry_at};
 use crate::piece::{Piece, Range};
@@ -49,6 +50,14 @@ pub struct Step {
 struct Turned {
     pub range: Option<Range>,
     pub next: Cursor,
+}
+
+impl From<Refusal> for StepRefusal {
+    ghost from_gives = { λ why refused. refused ≡ Table why };
+
+    fn from(why: Refusal) -> StepRefusal {
+        StepRefusal::Table(why)
+    }
 }
 
 impl Numbered for StepRefusal {
@@ -140,24 +149,21 @@ impl Cursor {
                 place: records.len() / OMAP.width,
             });
         }
-        let k = binary_search(records, OMAP.width, a).place;
-        if k == 0 {
-            return Ok(Cursor {
-                address: a,
-                end: b,
+        let place = binary_search(records, OMAP.width, a).place;
+        // What lies before the first record is not mapped.
+        let Entry { source, target } = match place.checked_sub(1) {
+            Some(at) => entry_at(records, at),
+            None => Entry {
                 source: 0,
                 target: 0,
-                place: 0,
-            });
-        }
-        let at = k - 1;
-        let Entry { source, target } = entry_at(records, at);
+            },
+        };
         Ok(Cursor {
             address: a,
             end: b,
             source,
             target,
-            place: k,
+            place,
         })
     }
 
@@ -167,37 +173,32 @@ impl Cursor {
         ensures { told_step result ≡ step_spec (is_some table.entry) (bytes_of table.entry) self }
     {
         let from = self;
-        let records = bytes_or_none(table);
-        if let Err(why) = OMAP.shape(records) {
-            return Step {
-                answer: Err(StepRefusal::Table(why)),
+        match self.advance(table) {
+            Ok(range) => Step {
+                answer: Ok(range),
+                cursor: self,
+            },
+            Err(why) => Step {
+                answer: Err(why),
                 cursor: from,
-            };
+            },
         }
+    }
+
+    // Goes on to the next piece, past the parts that are not mapped.
+    #[tactic(auto, unfolding(crate::specs::Step::step_spec))]
+    fn advance(&mut self, table: Option<&[u8]>) -> Result<Option<Range>, StepRefusal>
+        ensures { advanced self.old self.new result ≡ step_spec (is_some table.entry) (bytes_of table.entry) self.old }
+    {
+        let records = bytes_or_none(table);
+        OMAP.shape(records)?;
         while self.address < self.end {
-            match pull(records, self) {
-                Ok(turned) => match turned.range {
-                    Some(range) => {
-                        return Step {
-                            answer: Ok(Some(range)),
-                            cursor: turned.next,
-                        };
-                    }
-                    None => {
-                        self = turned.next;
-                    }
-                },
-                Err(why) => {
-                    return Step {
-                        answer: Err(why),
-                        cursor: from,
-                    };
-                }
+            let turned = pull(records, *self)?;
+            *self = turned.next;
+            if let Some(range) = turned.range {
+                return Ok(Some(range));
             }
         }
-        Step {
-            answer: Ok(None),
-            cursor: self,
-        }
+        Ok(None)
     }
 }

@@ -67,19 +67,17 @@ fn translate_before(table: &[u8], place: usize, address: u32) -> Result<Option<u
     requires { place ≡ (binary_search 8 table.now address).place }
     ensures { told sum_number result ≡ fitted (moved address (record_before table.now place)) }
 {
-    if place == 0 {
+    let Some(at) = place.checked_sub(1) else {
         return Ok(None);
-    }
-    let at = place - 1;
+    };
     let Entry { source, target } = entry_at(table, at);
     if target == 0 {
         return Ok(None);
     }
     let into = address - source;
-    if into <= 4294967295 - target {
-        Ok(Some(into + target))
-    } else {
-        Err(SumRefusal::TooLarge)
+    match into.checked_add(target) {
+        Some(translation) => Ok(Some(translation)),
+        None => Err(SumRefusal::TooLarge),
     }
 }
 

@@ -7,8 +7,6 @@ pub struct Piece {
     pub at: u64,
     pub size: u64,
     pub to: u64,
-    ghost some_of_it: { 0 < size },
-    ghost inside: { at + size ≤ 4294967295 },
     ghost small: { to + size ≤ 12884901888 },
 }
 

@@ -12,10 +12,10 @@ pub(crate) fn below(table: &[u8], b: u32) -> usize
     requires { rising (keys 8 table.now) ≡ true }
     ensures { Below table.now b result }
 {
-    if b == 0 {
-        return 0;
+    match b.checked_sub(1) {
+        Some(last) => binary_search(table, OMAP.width, last).place,
+        None => 0,
     }
-    binary_search(table, OMAP.width, b - 1).place
 }
 
 // The place of the first record that can have a piece in a window from a on.
@@ -27,6 +27,7 @@ pub(crate) fn first_from(table: &[u8], a: u32) -> usize
 }
 
 // Where the addresses of record i below b end, with `last` records that begin below b.
+// No method of `Pieces`: who walks has the table's bytes in hand, and would look for them behind its `Option` each time.
 pub fn end_in(table: &[u8], i: usize, last: usize, b: u32) -> u32
     requires { (i < last) × Below table.now b last }
     ensures { result ≡ min b (next_of (rest table.now (i + 1))) }

@@ -32,29 +32,39 @@ struct Next {
 }
 
 impl<'t> Pieces<'t> {
-    ghost use Rattle.omap.specs.Ahead.{Begun, NextIs};
+    ghost use Rattle.omap.specs.Ahead.{Begun, GoesOver, NextIs};
 
-    // The pieces of a..b. An absent table has one record, which takes a to itself.
+    // The pieces of a..b, or why the table is refused.
     pub fn of(table: Option<&'t [u8]>, a: u32, b: u32) -> Result<Pieces<'t>, Refusal>
         ensures { Begun table.entry a b result }
     {
+        if let Some(records) = table {
+            OMAP.check(records)?;
+        }
+        Ok(Pieces::in_table(table, a, b))
+    }
+
+    // The same of a table in order. An absent one has one record, which takes a to itself.
+    pub fn in_table(table: Option<&'t [u8]>, a: u32, b: u32) -> Pieces<'t>
+        requires { rising (keys 8 (bytes_of table)) ≡ true }
+        ensures { GoesOver table.entry a b result }
+    {
         let Some(records) = table else {
-            return Ok(Pieces {
+            return Pieces {
                 table,
                 a,
                 b,
                 next: 0,
                 last: 0,
-            });
+            };
         };
-        OMAP.check(records)?;
-        Ok(Pieces {
+        Pieces {
             table,
             a,
             b,
             next: first_from(records, a),
             last: below(records, b),
-        })
+        }
     }
 
     // The first that is still to come. A record that is not mapped costs one load and one comparison.

@@ -17,7 +17,7 @@ pub loop-i-init : goal.loop-i-init
 loop-i-init c =
     let a = c.args in
     searching-first c.bytes_or_none-table.result.now a.window.b a.piece.to (a.piece.to + a.piece.size) a.window.next
-    (omega (arith, a.piece.some_of_it))
+    (omega arith)
 
 pub returns-then-best-from : goal.returns-then-best-from
 returns-then-best-from c =
@@ -26,7 +26,7 @@ returns-then-best-from c =
     let e : c.better-best.result.target ≡ a.piece.to = omega (arith, c.better-best.ensures.low) in
     rw (← c.bytes_or_none-table.ensures, e) (
     searching-found s a.window.b a.piece.to (a.piece.to + a.piece.size) a.window.next c.loop-i.i c.loop-i.best
-    c.loop-i.invariant c.better-best.result c.better-best.ensures (omega (arith, a.piece.some_of_it)) (omega arith)
+    c.loop-i.invariant c.better-best.result c.better-best.ensures (omega arith) (omega arith)
     ∙ whole (pieces 0 a.window.b (rest s a.window.next)) a.piece.to a.piece.size)
 
 -- a record whose target is not below the best adds nothing

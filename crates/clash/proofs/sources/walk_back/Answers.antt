@@ -1,4 +1,5 @@
 use mathlib.Core.Path.{sym, ◌∙◌}
+use native.Mathlib.Omega.{arith}
 use Rattle.omap.specs.Ahead.{ahead}
 use Rattle.omap.specs.Told.{told_piece}
 use Rattle.clash.specs.Kept.{so_far}
@@ -16,3 +17,6 @@ returns c =
     let kept = c.loop-piece.kept in
     kept-told kept
     ∙ sym (c.loop-piece.invariant ∙ back_last (so_far kept) (ahead c.loop-piece.piece-iterator) c.args.t c.in-None.ensures.steps.0.0)
+
+pub with_piece-kept-requires : goal.with_piece-kept-requires
+with_piece-kept-requires c = let found = c.in-Some.ensures.steps.1.found in omega (arith, found.inside, found.short)

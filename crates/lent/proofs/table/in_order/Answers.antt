@@ -3,7 +3,6 @@ use mathlib.Core.Path.{◌≡◌, refl, sym, ap, ◌∙◌}
 use mathlib.Core.Bool.{Bool, ◌&&◌, and-true}
 use native.Mathlib.Omega.{arith}
 use lib.ListN.{length}
-use lib.Dec.{eqb}
 use native.Mathlib.Nat.{mul-zero}
 use Rattle.lent.specs.Le.{le_at}
 use Rattle.lent.specs.Order.{key_at}
@@ -39,9 +38,9 @@ loop-i-preserved c =
         omega arith,
         (
           refl,
-          rw (c.not_above-fault.ensures, c.u32_at-key.ensures)
+          rw c.u32_at-key.ensures
               (c.loop-i.invariant.1.1.1 ∙ after-step (key_at a.width a.table.now) c.loop-i.i (length a.table.now / a.width)
-              c.loop-i.before (omega arith) c.loop-i.fault),
+              c.loop-i.before (omega arith) c.loop-i.rises),
         ),
       ),
     )
@@ -51,5 +50,4 @@ returns c =
     let a = c.args in
     let all = rising-all (key_at a.width a.table.now) c.loop-i.before c.loop-i.i (length a.table.now / a.width)
     (omega arith) in
-    sym (c.loop-i.invariant.1.1.1 ∙ ap (λ (t : Bool). eqb c.loop-i.fault 0 && t) all ∙ and-true (eqb c.loop-i.fault
-    0))
+    sym (c.loop-i.invariant.1.1.1 ∙ ap (λ (t : Bool). c.loop-i.rises && t) all ∙ and-true c.loop-i.rises)

@@ -1,4 +1,5 @@
-use mathlib.Core.Path.{sym, subst}
+use Prim.Native.Nat.{◌-◌}
+use mathlib.Core.Path.{◌≡◌, sym, subst}
 use native.Mathlib.Omega.{arith}
 use Rattle.lent.specs.Order.{FirstAbove}
 use Rattle.lent.proofs.Search.{found-above}
@@ -11,24 +12,29 @@ returns-then-b-a c =
     let a = c.args in
     rw c.in-Some.is (start-empty c.in-Some.records.now a.a a.b c.in_ok-check.ensures (omega arith))
 
-pub returns-then-k-eq0 : goal.returns-then-k-eq0
-returns-then-k-eq0 c =
+pub entry_at-requires : goal.entry_at-requires
+entry_at-requires c =
     let a = c.args in
     let s = c.in-Some.records.now in
-    let above = found-above 8 s a.a (in_order s (sym c.in_ok-check.ensures)) c.binary_search-k.result c.binary_search-k.ensures in
-    rw c.in-Some.is (start-before s a.a a.b c.in_ok-check.ensures (omega arith) (subst (FirstAbove 8 s a.a) c.if-k-eq0.true above))
+    let found = c.binary_search-place in
+    let above = found-above 8 s a.a (in_order s (sym c.in_ok-check.ensures)) found.result found.ensures in
+    omega (arith, above, c.in-Some-checked_sub.ensures)
 
-pub entry_at-source-requires : goal.entry_at-source-requires
-entry_at-source-requires c =
+pub returns-in-None : goal.returns-in-None
+returns-in-None c =
     let a = c.args in
     let s = c.in-Some.records.now in
-    let above = found-above 8 s a.a (in_order s (sym c.in_ok-check.ensures)) c.binary_search-k.result c.binary_search-k.ensures in
-    omega (arith, above)
+    let found = c.binary_search-place in
+    let above = found-above 8 s a.a (in_order s (sym c.in_ok-check.ensures)) found.result found.ensures in
+    let none : found.result.place ≡ 0 = omega (arith, c.in-None.ensures) in
+    rw (c.in-Some.is, none) (start-before s a.a a.b c.in_ok-check.ensures (omega arith) (subst (FirstAbove 8 s a.a) none above))
 
-pub returns : goal.returns
-returns c =
+pub returns-in-Some-checked_sub : goal.returns-in-Some-checked_sub
+returns-in-Some-checked_sub c =
     let a = c.args in
     let s = c.in-Some.records.now in
-    let above = found-above 8 s a.a (in_order s (sym c.in_ok-check.ensures)) c.binary_search-k.result c.binary_search-k.ensures in
-    rw (c.in-Some.is, c.entry_at-source.ensures)
-    (start-record s a.a a.b c.in_ok-check.ensures (omega arith) c.binary_search-k.result.place (omega arith) above)
+    let found = c.binary_search-place in
+    let above = found-above 8 s a.a (in_order s (sym c.in_ok-check.ensures)) found.result found.ensures in
+    let at : c.in-Some-checked_sub.at ≡ found.result.place - 1 = omega (arith, c.in-Some-checked_sub.ensures) in
+    rw (c.in-Some.is, c.entry_at.ensures, at)
+    (start-record s a.a a.b c.in_ok-check.ensures (omega arith) found.result.place (omega (arith, c.in-Some-checked_sub.ensures)) above)

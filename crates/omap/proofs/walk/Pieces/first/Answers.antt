@@ -15,7 +15,7 @@ returns-then-from-end c =
     rw (c.in-Some.is, c.u32_at-source.ensures, c.u32_at-target.ensures) (walk-found s p.a p.b j
     (omega (arith, until.within)) p.next c.loop-place.invariant.1 c.max-from.result c.end_in-end.result
     (c.max-from.ensures ∙ ap (max p.a) c.u32_at-source.ensures) c.end_in-end.ensures (omega arith)
-    (λ z. c.if-mapped.true (omega arith)) c.loop-place.invariant.0)
+    (λ z. c.if-mapped.true (omega arith)) c.loop-place.invariant.0 (omega arith))
 
 pub loop-place-preserved : goal.loop-place-preserved
 loop-place-preserved c =

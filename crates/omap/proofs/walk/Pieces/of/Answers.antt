@@ -1,20 +1,12 @@
 use mathlib.Core.Path.{sym}
 use Rattle.omap.proofs.Last.{in_order}
-use Rattle.omap.proofs.Walking.{none-below, none-rises}
+use Rattle.omap.proofs.Walking.{none-rises}
+use Rattle.omap.proofs.walk.Pieces.of.Goals.{in-Some+in_ok-check, in_default}
 use Rattle.omap.proofs.walk.Pieces.of.Goals as goal
 
-pub invariant_of-result : goal.invariant_of-result
-invariant_of-result c = rw c.in_default.is (record { in_order = none-rises; until = none-below c.args.b })
-
-pub first_from-requires : goal.first_from-requires
-first_from-requires c = in_order c.in-Some.records.now (sym c.in_ok-check.ensures)
-
-pub below-requires : goal.below-requires
-below-requires c = in_order c.in-Some.records.now (sym c.in_ok-check.ensures)
-
-pub invariant_of-result-2 : goal.invariant_of-result-2
-invariant_of-result-2 c =
-    rw c.in-Some.is (record {
-      in_order = in_order c.in-Some.records.now (sym c.in_ok-check.ensures);
-      until = c.below.ensures;
-    })
+pub in_table-requires : goal.in_table-requires
+in_table-requires c =
+    elim c.match-table.branch [
+      | in-Some+in_ok-check w ↦ rw w.in-Some.is (in_order w.in-Some.records.now (sym w.in_ok-check.ensures))
+      | in_default w ↦ rw w.in_default.is none-rises
+    ]

@@ -6,7 +6,7 @@ use Rattle.std.specs.Prelude.{is_some}
 use Rattle.lent.specs.Table.{bytes_of}
 use Rattle.omap.specs.Records.{rest}
 use Rattle.omap.specs.Step.{step_spec}
-use Rattle.omap.proofs.cursor.Cursor.step.Given as goal
+use Rattle.omap.proofs.cursor.Cursor.advance.Given as goal
 
 abbrev pub invariant-loop-self : goal.invariant-loop-self
 invariant-loop-self l = step_spec (is_some l.fn.table) (bytes_of l.fn.table) l.initial.self ≡ walk l.initial.self
