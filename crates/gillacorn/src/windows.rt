@@ -5,7 +5,8 @@ ghost use Rattle.omap.specs.Output.{told_windowed, window_spec, window_out};
 ghost use Rattle.omap.specs.Step.{start_spec, told_step, step_spec};
 ghost use Rattle.gillacorn.specs.Windows.{pieces_answer, cursor_answer, step_answer};
 
-use lent::{Numbered, Refusal, if_present};
+use crate::code::{coded, coded_value};
+use lent::{Refusal, if_present};
 use omap::cursor::{Cursor, Step};
 use omap::piece::Range;
 use omap::windows::WindowRefusal;
@@ -36,62 +37,37 @@ pub struct StepAnswer {
 pub fn pieces_answer(answer: Result<usize, WindowRefusal>) -> PiecesAnswer
     ensures { result ≡ pieces_answer (told_windowed answer) }
 {
-    match answer {
-        Ok(pieces) => PiecesAnswer { code: 0, pieces },
-        Err(why) => match why {
-            WindowRefusal::Table(_) | WindowRefusal::TooLarge => PiecesAnswer {
-                code: why.number(),
-                pieces: 0,
-            },
-            WindowRefusal::Short(pieces) => PiecesAnswer {
-                code: why.number(),
-                pieces,
-            },
-        },
-    }
+    let needed = match answer {
+        Err(WindowRefusal::Short(pieces)) => pieces,
+        _ => 0,
+    };
+    let (code, pieces) = coded_value(answer, needed);
+    PiecesAnswer { code, pieces }
 }
 
 fn cursor_answer(answer: Result<Cursor, Refusal>) -> CursorAnswer
     ensures { result ≡ cursor_answer (told_value number answer) }
 {
-    match answer {
-        Ok(cursor) => CursorAnswer { code: 0, cursor },
-        Err(why) => CursorAnswer {
-            code: why.number(),
-            cursor: Cursor {
-                address: 0,
-                end: 0,
-                source: 0,
-                target: 0,
-                place: 0,
-            },
-        },
-    }
+    let none = Cursor {
+        address: 0,
+        end: 0,
+        source: 0,
+        target: 0,
+        place: 0,
+    };
+    let (code, cursor) = coded_value(answer, none);
+    CursorAnswer { code, cursor }
 }
 
 fn step_answer(step: Step) -> StepAnswer
     ensures { result ≡ step_answer (told_step step) }
 {
-    let cursor = step.cursor;
-    match step.answer {
-        Ok(Some(Range { start, end })) => StepAnswer {
-            code: 0,
-            start,
-            end,
-            cursor,
-        },
-        Ok(None) => StepAnswer {
-            code: 255,
-            start: 0,
-            end: 0,
-            cursor,
-        },
-        Err(why) => StepAnswer {
-            code: why.number(),
-            start: 0,
-            end: 0,
-            cursor,
-        },
+    let (code, Range { start, end }) = coded(step.answer, Range { start: 0, end: 0 });
+    StepAnswer {
+        code,
+        start,
+        end,
+        cursor: step.cursor,
     }
 }
 
