@@ -1,4 +1,5 @@
-// Bundles: the tables of a build in one file.
+// Bundles: the tables of a build in one file. A part that may be missing is a mark and bytes, or a mark and a span:
+// C has no Option.
 ghost use Rattle.std.specs.Prelude.{◌≡◌, length};
 ghost use Rattle.lent.specs.Paper.{told_value};
 ghost use Rattle.bundle.specs.Reading.{read_number, read_spec};
@@ -109,6 +110,7 @@ fn bytes_answer(answer: Result<usize, WriteRefusal>) -> BytesAnswer
     BytesAnswer { code, bytes }
 }
 
+#[tactic(auto, using(crate::proofs::Lent::marked_parts))]
 pub fn gillacorn_bundle_write<'s>(
     has_original_sections: bool,
     original_sections: &'s [u8],

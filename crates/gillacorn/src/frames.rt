@@ -1,4 +1,4 @@
-// Frames, one by one and merged.
+// Frames, one by one and merged. A table or a number that may be missing has its mark beside it: C has no Option.
 ghost use Rattle.std.specs.Prelude.{◌≡◌};
 ghost use Rattle.lent.specs.Paper.{number, told_value};
 ghost use Rattle.lent.specs.Table.{bytes_of, if_present};

@@ -45,7 +45,7 @@ pub struct Flags {
     pub write: bool,
 }
 
-// All zeros, where there is no header to give.
+// All zeros, where there is no header to give. A Default would be a public function of pe for C's zeros alone.
 fn no_header() -> ImageSectionHeader
     ensures { result ≡ no_header }
 {

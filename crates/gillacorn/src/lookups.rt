@@ -1,4 +1,4 @@
-// OMAP tables: records and single translations.
+// OMAP tables: records and single translations. A table that may be missing has its mark beside it: C has no Option.
 ghost use Rattle.std.specs.Prelude.{◌≡◌};
 ghost use Rattle.lent.specs.Paper.{number, told};
 ghost use Rattle.omap.specs.Lookup.{record_spec, lookup_spec};
@@ -48,6 +48,7 @@ pub fn gillacorn_record_at(table: &[u8], place: usize) -> RecordAnswer
     record_answer(omap::record_at(table, place))
 }
 
+#[tactic(auto, unfolding(omap::specs::Lookup::lookup_spec))]
 pub fn gillacorn_lookup(present: bool, table: &[u8], address: u32) -> ValueAnswer
     ensures { result ≡ value_answer (lookup_spec present table.now address) }
 {
@@ -66,6 +67,7 @@ fn quick_answer(answer: Result<Quick, SumRefusal>) -> QuickAnswer
     }
 }
 
+#[tactic(auto, unfolding(omap::specs::Quick::quick_spec))]
 pub fn gillacorn_quick_lookup(present: bool, table: &[u8], address: u32) -> QuickAnswer
     ensures { result ≡ quick_answer (quick_spec present table.now address) }
 {

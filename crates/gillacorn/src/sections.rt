@@ -1,4 +1,5 @@
 // From an address to a section and an offset in it, and back; and the address map that the conversions are lent.
+// Its tables have their marks beside them, one by one as C passes them: C has no Option.
 ghost use Rattle.std.specs.Prelude.{◌≡◌, cond, Some, None};
 ghost use Rattle.lent.specs.Paper.{sum_number, told};
 ghost use Rattle.address_map.specs.Sections.{in_section, section_spec, address_spec};

@@ -1,4 +1,4 @@
-// OMAP tables: the pieces of a window, and cursors over them.
+// OMAP tables: the pieces of a window, and cursors over them. The table has its mark beside it: C has no Option.
 ghost use Rattle.std.specs.Prelude.{◌≡◌, ◌/◌, length};
 ghost use Rattle.lent.specs.Paper.{number, told_value};
 ghost use Rattle.omap.specs.Output.{told_windowed, window_spec, window_out};
@@ -48,6 +48,7 @@ pub fn pieces_answer(answer: Result<usize, WindowRefusal>) -> PiecesAnswer
 fn cursor_answer(answer: Result<Cursor, Refusal>) -> CursorAnswer
     ensures { result ≡ cursor_answer (told_value number answer) }
 {
+    // A Default would be a public function of omap for C's zeros alone.
     let none = Cursor {
         address: 0,
         end: 0,
@@ -71,6 +72,7 @@ fn step_answer(step: Step) -> StepAnswer
     }
 }
 
+#[tactic(auto, unfolding(omap::specs::Output::window_fault, omap::specs::Output::window_spec, omap::specs::Output::window_out,))]
 pub fn gillacorn_window(
     present: bool,
     table: &[u8],
@@ -84,12 +86,14 @@ pub fn gillacorn_window(
     pieces_answer(omap::windows::window(if_present(present, table), a, b, out))
 }
 
+#[tactic(auto, unfolding(omap::specs::Step::start_spec))]
 pub fn gillacorn_cursor_start(present: bool, table: &[u8], a: u32, b: u32) -> CursorAnswer
     ensures { result ≡ cursor_answer (start_spec present table.now a b) }
 {
     cursor_answer(Cursor::start(if_present(present, table), a, b))
 }
 
+#[tactic(auto, unfolding(omap::specs::Step::step_spec))]
 pub fn gillacorn_cursor_step(cursor: Cursor, present: bool, table: &[u8]) -> StepAnswer
     ensures { result ≡ step_answer (step_spec present table.now cursor) }
 {
