@@ -8,6 +8,12 @@ code_of (value x) = 0
 code_of nothing = 255
 code_of (refused n) = n
 
+-- a value beside its code, and what stands there where there is none to give
+abbrev pub coded : {A : Type 0} → A → Told A → ℕ × A
+coded n (value x) = (0, x)
+coded n nothing = (255, n)
+coded n (refused k) = (k, n)
+
 -- a number beside its code; 0 where there is none to give
 abbrev pub value_answer : Told ℕ → ValueAnswer
 value_answer (value x) = record { code = 0; value = x }

@@ -1,12 +1,14 @@
-// Bundles: the tables of a build in one file.
+// Bundles: the tables of a build in one file. A part that may be missing is a mark and bytes, or a mark and a span:
+// C has no Option.
 ghost use Rattle.std.specs.Prelude.{◌≡◌, length};
 ghost use Rattle.lent.specs.Paper.{told_value};
 ghost use Rattle.bundle.specs.Reading.{read_number, read_spec};
 ghost use Rattle.bundle.specs.Writing.{lent_parts, told_written, write_spec, write_out};
 ghost use Rattle.gillacorn.specs.Bundles.{span_shown, spans_shown, spans_answer, bytes_answer};
 
+use crate::code::coded_value;
 use bundle::{Parts, ReadRefusal, Span, WriteRefusal};
-use lent::{Numbered, if_present};
+use lent::if_present;
 
 // Where a part lies in its file.
 #[repr(C)]
@@ -75,23 +77,19 @@ fn spans_shown(spans: Parts<Option<Span>>) -> PartSpans
 fn spans_answer(answer: Result<Parts<Option<Span>>, ReadRefusal>) -> SpansAnswer
     ensures { result ≡ spans_answer (told_value read_number answer) }
 {
-    match answer {
-        Ok(spans) => SpansAnswer {
-            code: 0,
-            spans: spans_shown(spans),
-        },
-        // All parts absent, beside a refusal.
-        Err(why) => SpansAnswer {
-            code: why.number(),
-            spans: spans_shown(Parts {
-                original_sections: None,
-                transformed_sections: None,
-                to_original: None,
-                to_transformed: None,
-                old_frames: None,
-                new_frames: None,
-            }),
-        },
+    // All parts absent, beside a refusal.
+    let none = Parts {
+        original_sections: None,
+        transformed_sections: None,
+        to_original: None,
+        to_transformed: None,
+        old_frames: None,
+        new_frames: None,
+    };
+    let (code, spans) = coded_value(answer, none);
+    SpansAnswer {
+        code,
+        spans: spans_shown(spans),
     }
 }
 
@@ -104,21 +102,15 @@ pub fn gillacorn_bundle_read(file: &[u8]) -> SpansAnswer
 fn bytes_answer(answer: Result<usize, WriteRefusal>) -> BytesAnswer
     ensures { result ≡ bytes_answer (told_written answer) }
 {
-    match answer {
-        Ok(bytes) => BytesAnswer { code: 0, bytes },
-        Err(why) => match why {
-            WriteRefusal::TooLarge => BytesAnswer {
-                code: why.number(),
-                bytes: 0,
-            },
-            WriteRefusal::Short(bytes) => BytesAnswer {
-                code: why.number(),
-                bytes,
-            },
-        },
-    }
+    let needed = match answer {
+        Err(WriteRefusal::Short(bytes)) => bytes,
+        _ => 0,
+    };
+    let (code, bytes) = coded_value(answer, needed);
+    BytesAnswer { code, bytes }
 }
 
+#[tactic(auto, using(crate::proofs::Lent::marked_parts))]
 pub fn gillacorn_bundle_write<'s>(
     has_original_sections: bool,
     original_sections: &'s [u8],

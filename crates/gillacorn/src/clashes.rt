@@ -1,10 +1,11 @@
 // The clash check and the way back.
 ghost use Rattle.std.specs.Prelude.{◌≡◌};
 ghost use Rattle.clash.specs.Clash.{told_clashed, clash_spec, told_back, back_spec};
-ghost use Rattle.gillacorn.specs.Clashes.{pair_answer, sources_answer};
+ghost use Rattle.gillacorn.specs.Clashes.{pair_answer, sources_shown, sources_answer};
 
+use crate::code::coded;
 use clash::{Pair, Sources};
-use lent::{Numbered, SumRefusal};
+use lent::SumRefusal;
 
 // The least two addresses that share a translation, beside the code.
 #[repr(C)]
@@ -28,53 +29,38 @@ pub struct SourcesAnswer {
 fn pair_answer(answer: Result<Option<Pair>, SumRefusal>) -> PairAnswer
     ensures { result ≡ pair_answer (told_clashed answer) }
 {
-    match answer {
-        Ok(Some(Pair { first, second })) => PairAnswer {
-            code: 0,
-            first,
-            second,
-        },
-        Ok(None) => PairAnswer {
-            code: 255,
-            first: 0,
-            second: 0,
-        },
-        Err(why) => PairAnswer {
-            code: why.number(),
-            first: 0,
-            second: 0,
-        },
+    let none = Pair {
+        first: 0,
+        second: 0,
+    };
+    let (code, Pair { first, second }) = coded(answer, none);
+    PairAnswer {
+        code,
+        first,
+        second,
+    }
+}
+
+// How many are shown, and which; 0 where there is no second.
+fn sources_shown(found: Sources) -> (u32, u32, u32)
+    ensures { result ≡ sources_shown found }
+{
+    match found {
+        Sources::One(first) => (1, first, 0),
+        Sources::Two(first, second) => (2, first, second),
     }
 }
 
 fn sources_answer(answer: Result<Option<Sources>, SumRefusal>) -> SourcesAnswer
     ensures { result ≡ sources_answer (told_back answer) }
 {
-    match answer {
-        Ok(Some(Sources::One(first))) => SourcesAnswer {
-            code: 0,
-            sources: 1,
-            first,
-            second: 0,
-        },
-        Ok(Some(Sources::Two(first, second))) => SourcesAnswer {
-            code: 0,
-            sources: 2,
-            first,
-            second,
-        },
-        Ok(None) => SourcesAnswer {
-            code: 255,
-            sources: 0,
-            first: 0,
-            second: 0,
-        },
-        Err(why) => SourcesAnswer {
-            code: why.number(),
-            sources: 0,
-            first: 0,
-            second: 0,
-        },
+    let shown = answer.map(|found| found.map(sources_shown));
+    let (code, (sources, first, second)) = coded(shown, (0, 0, 0));
+    SourcesAnswer {
+        code,
+        sources,
+        first,
+        second,
     }
 }
 

@@ -1,20 +1,20 @@
-// Frames, one by one and merged.
+// Frames, one by one and merged. A table or a number that may be missing has its mark beside it: C has no Option.
 ghost use Rattle.std.specs.Prelude.{◌≡◌};
 ghost use Rattle.lent.specs.Paper.{number, told_value};
 ghost use Rattle.lent.specs.Table.{bytes_of, if_present};
-ghost use Rattle.framedata.specs.Attributes.{type_number};
 ghost use Rattle.framedata.specs.Frame.{told_frame, told_framed, old_frame_spec, new_frame_spec};
 ghost use Rattle.framedata.specs.Step.{told_step, step_spec};
 ghost use Rattle.framedata.specs.Start.{start_spec};
 ghost use Rattle.framedata.specs.Tables.{empty_spec};
-ghost use Rattle.gillacorn.specs.Frames.{frame_shown, no_frame, frame_answer, frame_cursor_answer, frame_step_answer, yes_answer};
+ghost use Rattle.gillacorn.specs.Frames.{frame_shown, frame_answer, frame_cursor_answer, frame_step_answer, yes_answer};
 
-use crate::code::ValueAnswer;
-use framedata::{FrameCursor, FrameData, FrameStep, FrameTable, FrameType};
-use lent::{Numbered, Refusal, SumRefusal};
+use crate::code::{ValueAnswer, coded, coded_value};
+use framedata::{FrameCursor, FrameData, FrameStep, FrameTable};
+use lent::{Refusal, SumRefusal};
 
+// Its default, all zeros, stands where there is no frame to give.
 #[repr(C)]
-#[derive(Clone, Copy)]
+#[derive(Clone, Copy, Default)]
 pub struct Frame {
     pub ty: u32,
     pub code_start: u32,
@@ -55,24 +55,11 @@ pub struct FrameStepAnswer {
     pub cursor: FrameCursor,
 }
 
-fn type_of(ty: FrameType) -> u32
-    ensures { result ≡ type_number ty }
-{
-    match ty {
-        FrameType::Unknown => 255,
-        FrameType::FPO => 0,
-        FrameType::Trap => 1,
-        FrameType::TSS => 2,
-        FrameType::Standard => 3,
-        FrameType::FrameData => 4,
-    }
-}
-
 fn frame_shown(frame: FrameData) -> Frame
     ensures { result ≡ frame_shown (told_frame frame) }
 {
     Frame {
-        ty: type_of(frame.ty),
+        ty: frame.ty as u32,
         code_start: frame.code_start,
         code_size: frame.code_size,
         locals_size: frame.locals_size,
@@ -90,46 +77,12 @@ fn frame_shown(frame: FrameData) -> Frame
     }
 }
 
-// What stands where there is no frame to give.
-fn no_frame() -> Frame
-    ensures { result ≡ no_frame }
-{
-    Frame {
-        ty: 0,
-        code_start: 0,
-        code_size: 0,
-        locals_size: 0,
-        params_size: 0,
-        prolog_size: 0,
-        saved_regs_size: 0,
-        has_structured_eh: false,
-        has_cpp_eh: false,
-        is_function_start: false,
-        uses_base_pointer: false,
-        has_max_stack_size: false,
-        has_program: false,
-        max_stack_size: 0,
-        program: 0,
-    }
-}
-
 fn frame_answer(answer: Result<Option<FrameData>, SumRefusal>) -> FrameAnswer
     ensures { result ≡ frame_answer (told_framed answer) }
 {
-    match answer {
-        Ok(Some(frame)) => FrameAnswer {
-            code: 0,
-            frame: frame_shown(frame),
-        },
-        Ok(None) => FrameAnswer {
-            code: 255,
-            frame: no_frame(),
-        },
-        Err(why) => FrameAnswer {
-            code: why.number(),
-            frame: no_frame(),
-        },
-    }
+    let shown = answer.map(|found| found.map(frame_shown));
+    let (code, frame) = coded(shown, Frame::default());
+    FrameAnswer { code, frame }
 }
 
 fn frame_step_answer(step: FrameStep) -> FrameStepAnswer
@@ -146,26 +99,15 @@ fn frame_step_answer(step: FrameStep) -> FrameStepAnswer
 fn frame_cursor_answer(answer: Result<FrameCursor, Refusal>) -> FrameCursorAnswer
     ensures { result ≡ frame_cursor_answer (told_value number answer) }
 {
-    match answer {
-        Ok(cursor) => FrameCursorAnswer { code: 0, cursor },
-        Err(why) => FrameCursorAnswer {
-            code: why.number(),
-            cursor: FrameCursor::new(),
-        },
-    }
+    let (code, cursor) = coded_value(answer, FrameCursor::new());
+    FrameCursorAnswer { code, cursor }
 }
 
 fn yes_answer(answer: Result<bool, Refusal>) -> ValueAnswer
     ensures { result ≡ yes_answer (told_value number answer) }
 {
-    match answer {
-        Ok(true) => ValueAnswer { code: 0, value: 1 },
-        Ok(false) => ValueAnswer { code: 0, value: 0 },
-        Err(why) => ValueAnswer {
-            code: why.number(),
-            value: 0,
-        },
-    }
+    let (code, value) = coded_value(answer.map(u32::from), 0);
+    ValueAnswer { code, value }
 }
 
 // The two tables behind their marks.

@@ -7,8 +7,8 @@ ghost use Rattle.pe.specs.Name.{name_spec};
 ghost use Rattle.gillacorn.specs.Code.{value_answer};
 ghost use Rattle.gillacorn.specs.Headers.{header_answer, flags_of};
 
-use crate::code::ValueAnswer;
-use lent::{Numbered, Refusal};
+use crate::code::{ValueAnswer, coded, value_answer};
+use lent::Refusal;
 use pe::{ImageSectionHeader, SectionCharacteristics};
 
 // A header beside its code; all zeros where there is none to give.
@@ -45,7 +45,7 @@ pub struct Flags {
     pub write: bool,
 }
 
-// All zeros, where there is no header to give.
+// All zeros, where there is no header to give. A Default would be a public function of pe for C's zeros alone.
 fn no_header() -> ImageSectionHeader
     ensures { result ≡ no_header }
 {
@@ -66,32 +66,14 @@ fn no_header() -> ImageSectionHeader
 fn header_answer(answer: Result<Option<ImageSectionHeader>, Refusal>) -> HeaderAnswer
     ensures { result ≡ header_answer (told number answer) }
 {
-    match answer {
-        Ok(Some(header)) => HeaderAnswer { code: 0, header },
-        Ok(None) => HeaderAnswer {
-            code: 255,
-            header: no_header(),
-        },
-        Err(why) => HeaderAnswer {
-            code: why.number(),
-            header: no_header(),
-        },
-    }
+    let (code, header) = coded(answer, no_header());
+    HeaderAnswer { code, header }
 }
 
 fn aligned(alignment: Option<u16>) -> ValueAnswer
     ensures { result ≡ value_answer (told_alignment alignment) }
 {
-    match alignment {
-        Some(bytes) => ValueAnswer {
-            code: 0,
-            value: u32::from(bytes),
-        },
-        None => ValueAnswer {
-            code: 255,
-            value: 0,
-        },
-    }
+    value_answer(Ok(alignment.map(u32::from)))
 }
 
 pub fn gillacorn_header(table: &[u8], place: usize) -> HeaderAnswer

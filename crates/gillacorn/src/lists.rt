@@ -1,4 +1,4 @@
-// A window's pieces into a list of records.
+// A window's pieces into a list of records. The table has its mark beside it: C has no Option.
 ghost use Rattle.std.specs.Prelude.{◌≡◌, length};
 ghost use Rattle.omap.specs.Output.{window_spec};
 ghost use Rattle.ranges.specs.ListOut.{list_out};
@@ -8,6 +8,7 @@ use crate::windows::{PiecesAnswer, pieces_answer};
 use lent::if_present;
 use ranges::Piece;
 
+#[tactic(auto, unfolding(omap::specs::Output::window_fault, omap::specs::Output::window_spec, ranges::specs::ListOut::list_out,))]
 pub fn gillacorn_list(
     present: bool,
     table: &[u8],

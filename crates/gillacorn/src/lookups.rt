@@ -1,4 +1,4 @@
-// OMAP tables: records and single translations.
+// OMAP tables: records and single translations. A table that may be missing has its mark beside it: C has no Option.
 ghost use Rattle.std.specs.Prelude.{◌≡◌};
 ghost use Rattle.lent.specs.Paper.{number, told};
 ghost use Rattle.omap.specs.Lookup.{record_spec, lookup_spec};
@@ -6,8 +6,8 @@ ghost use Rattle.omap.specs.Quick.{told_quick, quick_spec};
 ghost use Rattle.gillacorn.specs.Code.{value_answer};
 ghost use Rattle.gillacorn.specs.Lookups.{record_answer, quick_answer};
 
-use crate::code::{ValueAnswer, value_answer};
-use lent::{Numbered, Refusal, SumRefusal, if_present};
+use crate::code::{ValueAnswer, coded, value_answer};
+use lent::{Refusal, SumRefusal, if_present};
 use omap::{Entry, Quick};
 
 #[repr(C)]
@@ -30,22 +30,15 @@ pub struct QuickAnswer {
 fn record_answer(answer: Result<Option<Entry>, Refusal>) -> RecordAnswer
     ensures { result ≡ record_answer (told number answer) }
 {
-    match answer {
-        Ok(Some(Entry { source, target })) => RecordAnswer {
-            code: 0,
-            source,
-            target,
-        },
-        Ok(None) => RecordAnswer {
-            code: 255,
-            source: 0,
-            target: 0,
-        },
-        Err(why) => RecordAnswer {
-            code: why.number(),
-            source: 0,
-            target: 0,
-        },
+    let none = Entry {
+        source: 0,
+        target: 0,
+    };
+    let (code, Entry { source, target }) = coded(answer, none);
+    RecordAnswer {
+        code,
+        source,
+        target,
     }
 }
 
@@ -55,6 +48,7 @@ pub fn gillacorn_record_at(table: &[u8], place: usize) -> RecordAnswer
     record_answer(omap::record_at(table, place))
 }
 
+#[tactic(auto, unfolding(omap::specs::Lookup::lookup_spec))]
 pub fn gillacorn_lookup(present: bool, table: &[u8], address: u32) -> ValueAnswer
     ensures { result ≡ value_answer (lookup_spec present table.now address) }
 {
@@ -65,27 +59,15 @@ pub fn gillacorn_lookup(present: bool, table: &[u8], address: u32) -> ValueAnswe
 fn quick_answer(answer: Result<Quick, SumRefusal>) -> QuickAnswer
     ensures { result ≡ quick_answer (told_quick answer) }
 {
-    match answer {
-        Ok(found) => match found.translation {
-            Some(value) => QuickAnswer {
-                code: 0,
-                value,
-                probes: found.probes,
-            },
-            None => QuickAnswer {
-                code: 255,
-                value: 0,
-                probes: found.probes,
-            },
-        },
-        Err(why) => QuickAnswer {
-            code: why.number(),
-            value: 0,
-            probes: 0,
-        },
+    let (code, value) = coded(answer.map(|found| found.translation), 0);
+    QuickAnswer {
+        code,
+        value,
+        probes: answer.map_or(0, |found| found.probes),
     }
 }
 
+#[tactic(auto, unfolding(omap::specs::Quick::quick_spec))]
 pub fn gillacorn_quick_lookup(present: bool, table: &[u8], address: u32) -> QuickAnswer
     ensures { result ≡ quick_answer (quick_spec present table.now address) }
 {

@@ -1,14 +1,15 @@
 // From an address to a section and an offset in it, and back; and the address map that the conversions are lent.
+// Its tables have their marks beside them, one by one as C passes them: C has no Option.
 ghost use Rattle.std.specs.Prelude.{◌≡◌, cond, Some, None};
 ghost use Rattle.lent.specs.Paper.{sum_number, told};
 ghost use Rattle.address_map.specs.Sections.{in_section, section_spec, address_spec};
 ghost use Rattle.gillacorn.specs.Code.{value_answer};
 ghost use Rattle.gillacorn.specs.Sections.{extent_by, offset_answer};
 
-use crate::code::{ValueAnswer, value_answer};
+use crate::code::{ValueAnswer, coded, value_answer};
 use address_map::AddressMap;
 use address_map::sections::{Offset, get_section_offset, get_virtual_address};
-use lent::{Numbered, SumRefusal, if_present};
+use lent::{SumRefusal, if_present};
 use pe::ExtentBy;
 
 // A section, from 1, and an offset in it, beside the code: C has neither Option nor Result.
@@ -24,25 +25,15 @@ pub struct OffsetAnswer {
 pub fn offset_answer(answer: Result<Option<Offset>, SumRefusal>) -> OffsetAnswer
     ensures { result ≡ offset_answer (told sum_number answer) }
 {
-    match answer {
-        Ok(Some(Offset { section, offset })) => OffsetAnswer {
-            code: 0,
-            section,
-            offset,
-        },
-        Ok(None) => no_offset(255),
-        Err(why) => no_offset(why.number()),
-    }
-}
-
-// Where there is none to give.
-fn no_offset(code: u32) -> OffsetAnswer
-    ensures { result ≡ record { code = code; section = 0; offset = 0 } }
-{
-    OffsetAnswer {
-        code,
+    let none = Offset {
         section: 0,
         offset: 0,
+    };
+    let (code, Offset { section, offset }) = coded(answer, none);
+    OffsetAnswer {
+        code,
+        section,
+        offset,
     }
 }
 

@@ -1,11 +1,12 @@
-// OMAP tables: the pieces of a window, and cursors over them.
+// OMAP tables: the pieces of a window, and cursors over them. The table has its mark beside it: C has no Option.
 ghost use Rattle.std.specs.Prelude.{◌≡◌, ◌/◌, length};
 ghost use Rattle.lent.specs.Paper.{number, told_value};
 ghost use Rattle.omap.specs.Output.{told_windowed, window_spec, window_out};
 ghost use Rattle.omap.specs.Step.{start_spec, told_step, step_spec};
 ghost use Rattle.gillacorn.specs.Windows.{pieces_answer, cursor_answer, step_answer};
 
-use lent::{Numbered, Refusal, if_present};
+use crate::code::{coded, coded_value};
+use lent::{Refusal, if_present};
 use omap::cursor::{Cursor, Step};
 use omap::piece::Range;
 use omap::windows::WindowRefusal;
@@ -36,65 +37,42 @@ pub struct StepAnswer {
 pub fn pieces_answer(answer: Result<usize, WindowRefusal>) -> PiecesAnswer
     ensures { result ≡ pieces_answer (told_windowed answer) }
 {
-    match answer {
-        Ok(pieces) => PiecesAnswer { code: 0, pieces },
-        Err(why) => match why {
-            WindowRefusal::Table(_) | WindowRefusal::TooLarge => PiecesAnswer {
-                code: why.number(),
-                pieces: 0,
-            },
-            WindowRefusal::Short(pieces) => PiecesAnswer {
-                code: why.number(),
-                pieces,
-            },
-        },
-    }
+    let needed = match answer {
+        Err(WindowRefusal::Short(pieces)) => pieces,
+        _ => 0,
+    };
+    let (code, pieces) = coded_value(answer, needed);
+    PiecesAnswer { code, pieces }
 }
 
 fn cursor_answer(answer: Result<Cursor, Refusal>) -> CursorAnswer
     ensures { result ≡ cursor_answer (told_value number answer) }
 {
-    match answer {
-        Ok(cursor) => CursorAnswer { code: 0, cursor },
-        Err(why) => CursorAnswer {
-            code: why.number(),
-            cursor: Cursor {
-                address: 0,
-                end: 0,
-                source: 0,
-                target: 0,
-                place: 0,
-            },
-        },
-    }
+    // A Default would be a public function of omap for C's zeros alone.
+    let none = Cursor {
+        address: 0,
+        end: 0,
+        source: 0,
+        target: 0,
+        place: 0,
+    };
+    let (code, cursor) = coded_value(answer, none);
+    CursorAnswer { code, cursor }
 }
 
 fn step_answer(step: Step) -> StepAnswer
     ensures { result ≡ step_answer (told_step step) }
 {
-    let cursor = step.cursor;
-    match step.answer {
-        Ok(Some(Range { start, end })) => StepAnswer {
-            code: 0,
-            start,
-            end,
-            cursor,
-        },
-        Ok(None) => StepAnswer {
-            code: 255,
-            start: 0,
-            end: 0,
-            cursor,
-        },
-        Err(why) => StepAnswer {
-            code: why.number(),
-            start: 0,
-            end: 0,
-            cursor,
-        },
+    let (code, Range { start, end }) = coded(step.answer, Range { start: 0, end: 0 });
+    StepAnswer {
+        code,
+        start,
+        end,
+        cursor: step.cursor,
     }
 }
 
+#[tactic(auto, unfolding(omap::specs::Output::window_fault, omap::specs::Output::window_spec, omap::specs::Output::window_out,))]
 pub fn gillacorn_window(
     present: bool,
     table: &[u8],
@@ -108,12 +86,14 @@ pub fn gillacorn_window(
     pieces_answer(omap::windows::window(if_present(present, table), a, b, out))
 }
 
+#[tactic(auto, unfolding(omap::specs::Step::start_spec))]
 pub fn gillacorn_cursor_start(present: bool, table: &[u8], a: u32, b: u32) -> CursorAnswer
     ensures { result ≡ cursor_answer (start_spec present table.now a b) }
 {
     cursor_answer(Cursor::start(if_present(present, table), a, b))
 }
 
+#[tactic(auto, unfolding(omap::specs::Step::step_spec))]
 pub fn gillacorn_cursor_step(cursor: Cursor, present: bool, table: &[u8]) -> StepAnswer
     ensures { result ≡ step_answer (step_spec present table.now cursor) }
 {

@@ -1,5 +1,5 @@
 // The conversions of an address map that end in an address. Each is lent all four tables of the map,
-// behind their marks, and hands on those on its path.
+// behind their marks, and hands on those on its path. C has no Option: a table that may be missing is a mark and bytes.
 ghost use Rattle.std.specs.Prelude.{◌≡◌};
 ghost use Rattle.lent.specs.Table.{if_present};
 ghost use Rattle.omap.specs.Lookup.{lookup_spec};

@@ -1,4 +1,4 @@
-// Bundles: the tables of a build in one file.
+// Bundles: the tables of a build in one file. C has no Option: a part that may be missing is a mark and bytes.
 ghost use Rattle.std.specs.Prelude.{◌≡◌, length};
 ghost use Rattle.bundle.specs.Reading.{read_spec};
 ghost use Rattle.bundle.specs.Writing.{lent_parts, write_spec, write_out};

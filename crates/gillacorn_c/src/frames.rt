@@ -1,4 +1,4 @@
-// Frames, one by one and merged.
+// Frames, one by one and merged. C has no Option: a table that may be missing is a mark and bytes.
 ghost use Rattle.std.specs.Prelude.{◌≡◌};
 ghost use Rattle.lent.specs.Table.{if_present};
 ghost use Rattle.framedata.specs.Frame.{old_frame_spec, new_frame_spec};

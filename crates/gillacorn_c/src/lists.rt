@@ -1,4 +1,4 @@
-// A window's pieces into a list of records.
+// A window's pieces into a list of records. C has no Option: a table that may be missing is a mark and bytes.
 ghost use Rattle.std.specs.Prelude.{◌≡◌, length};
 ghost use Rattle.omap.specs.Output.{window_spec};
 ghost use Rattle.ranges.specs.ListOut.{list_out};

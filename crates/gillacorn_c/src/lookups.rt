@@ -1,4 +1,4 @@
-// OMAP tables: records and single translations.
+// OMAP tables: records and single translations. C has no Option: a table that may be missing is a mark and bytes.
 ghost use Rattle.std.specs.Prelude.{◌≡◌};
 ghost use Rattle.omap.specs.Lookup.{record_spec, lookup_spec};
 ghost use Rattle.omap.specs.Quick.{quick_spec};

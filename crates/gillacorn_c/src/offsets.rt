@@ -1,5 +1,5 @@
 // The conversions of an address map that end in a section. Each takes the choice of the extent, and is
-// lent all four tables of the map, behind their marks.
+// lent all four tables of the map, behind their marks. C has no Option: a table that may be missing is a mark and bytes.
 ghost use Rattle.std.specs.Prelude.{◌≡◌};
 ghost use Rattle.lent.specs.Table.{if_present};
 ghost use Rattle.address_map.specs.Sections.{in_section, section_spec};

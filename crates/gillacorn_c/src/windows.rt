@@ -1,4 +1,5 @@
-// OMAP tables: the pieces of a window, and cursors over them.
+// OMAP tables: the pieces of a window, and cursors over them. C has no Option: a table that may be missing is a mark
+// and bytes.
 ghost use Rattle.std.specs.Prelude.{◌≡◌, ◌/◌, length};
 ghost use Rattle.omap.specs.Output.{window_spec, window_out};
 ghost use Rattle.omap.specs.Step.{start_spec, step_spec};
