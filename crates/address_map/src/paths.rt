@@ -40,7 +40,9 @@ pub fn place_cross(
     omap::lookup(omap, address)
 }
 
-// From a section, through the OMAP, to a section of the other side; with no transformed sections, the same.
+// From a section, through the OMAP, to a section of the other side; with no transformed sections, the same. The flag
+// stays beside the tables: `place_cross_locate` of specs/Paths.antt names it, and by the direction `from` or `to` is the
+// transformed table.
 #[tactic(auto, unfolding(crate::specs::Paths::place_cross_locate))]
 pub fn place_cross_locate(
     by: ExtentBy,

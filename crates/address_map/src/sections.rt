@@ -49,10 +49,9 @@ pub fn get_virtual_address(
     ensures { told sum_number result ≡ address_spec sections.now (in_section section offset) }
 {
     SECTIONS.shape(sections)?;
-    if section == 0 {
+    let Some(place) = usize::from(section).checked_sub(1) else {
         return Ok(None);
-    }
-    let place = (section as usize) - 1;
+    };
     if place >= sections.len() / SECTIONS.width {
         return Ok(None);
     }

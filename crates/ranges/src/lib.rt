@@ -25,9 +25,7 @@ pub fn list(table: Option<&[u8]>, a: u32, b: u32, out: &mut [Piece]) -> Result<u
     if window.count > out.len() {
         return Err(WindowRefusal::Short(window.count));
     }
-    let mut pieces = window.pieces;
-    for k in 0..window.count {
-        let piece = pieces.next().unwrap();
+    for (k, piece) in window.pieces.enumerate() {
         out[k] = piece.range();
     }
     Ok(window.count)

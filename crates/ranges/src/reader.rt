@@ -1,5 +1,6 @@
 // A reader over the pieces of a window that keeps hold of its table's bytes, as `RangeIter` of pdb does. Its methods
-// take it apart and leave the work to the cursor.
+// take it apart and leave the work to the cursor; `new`, `next` and `moved` are promises of docs/PROMISES.md, and so it
+// is no `Iterator`.
 ghost use Rattle.std.specs.Prelude.{◌≡◌, ◌/◌, length, is_some};
 ghost use Rattle.lent.specs.Table.{bytes_of};
 ghost use Rattle.omap.specs.Output.{told_windowed, window_spec, window_out};
@@ -55,6 +56,7 @@ pub fn drain(table: Option<&[u8]>, a: u32, b: u32, out: &mut [u32]) -> Result<us
     // A window that is not refused is not refused at its start, and its cursor yields as many pieces as it has.
     let cursor = Cursor::start(table, a, b).unwrap();
     let mut reader = RangeReader::new(table, cursor);
+    // By place: a reader is no iterator to zip with pairs of `out`. No step of these is refused or the last.
     for entry in 0..window.count {
         let step = reader.next();
         let range = step.answer.unwrap().unwrap();
