@@ -2,13 +2,14 @@
 // then the new frames, all little-endian.
 #![tactic(auto)]
 
+// As the program `window`, which says why.
 fn main(rt: HostRuntime) {
     // One byte more than the most that is taken, so that a longer input is seen.
     let mut input = [0u8; 65537];
     let Ok(n) = streams::take(&rt, &mut input) else {
         return;
     };
-    let mut out = [0u8; 327760];
+    let mut out = [0u8; report::FRAMES_ROOM];
     let length = report::frames_text(&input[..n], &mut out);
     streams::give(&rt, &out[..length]);
 }

@@ -88,6 +88,7 @@ pub fn frames_text(input: &[u8], out: &mut [u8]) -> usize
         return 0;
     }
     let mut page = Page { out, at: 0 };
+    // As `window_text` ends, which says why.
     match print(input, &mut page) {
         Ok(()) => page.at,
         Err(why) => {

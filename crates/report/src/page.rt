@@ -32,6 +32,7 @@ fn write_digits(n: u64, base: u64, out: &mut [u8])
     ensures { out.new ≡ digits base (length out.old) n }
 {
     let mut left = n;
+    // By index: a proof knows nothing of what `iter_mut().rev()` wrote.
     for k in (0..out.len()).rev() {
         out[k] = glyph(left % base);
         left /= base;

@@ -40,6 +40,7 @@ fn listing(a: u32, b: u32, table: &[u8], page: &mut Page) -> Result<(), WindowRe
     ensures { MatchResult result (λ _. Put (table_text a b table.now) page.old page.new)
         (λ why. (page.new ≡ page.old) × (table_text a b table.now ≡ refused_text (window_number why))) }
 {
+    // No heap: `window` writes its pairs into what it is lent, and tells how many.
     let mut pairs = [0u32; 16384];
     let n = window(Some(table), a, b, &mut pairs)?;
     pair_lines(&pairs[..2 * n], page);
@@ -60,9 +61,6 @@ fn print(input: &[u8], page: &mut Page) -> Result<(), WindowRefusal>
     listing(a, b, &input[8..], page)
 }
 
-// The end of this function is that of `frames_text`: one function for both would take `print` as a closure, and its
-// promise would have to be told of the closure's own.
-//
 // What the program `window` prints for an input of a, b and an OMAP table. The answer is the
 // length of the text, or 0 where `out` is shorter than `WINDOW_ROOM`.
 pub fn window_text(input: &[u8], out: &mut [u8]) -> usize
@@ -72,6 +70,7 @@ pub fn window_text(input: &[u8], out: &mut [u8]) -> usize
         return 0;
     }
     let mut page = Page { out, at: 0 };
+    // As `frames_text` ends: one function for both would take `print` as a closure, and have to tell its promise of it.
     match print(input, &mut page) {
         Ok(()) => page.at,
         Err(why) => {

@@ -13,19 +13,13 @@ use std::io::Read;
 pub fn take(rt: &(impl Input + Eprint), buf: &mut [u8]) -> io::Result<usize>
     ensures { Held result buf.new }
 {
-    let mut input = rt.reader();
-    // Counted by hand: the library's methods that read on to the end of an input need the heap.
-    let mut done = 0;
-    while done < buf.len() {
-        let more = input.read(&mut buf[done..]).inspect_err(|_| {
-            let _ = rt.eprintln("failed: standard input can't be read");
-        })?;
-        if more == 0 {
-            break;
-        }
-        done += more;
-    }
-    Ok(done)
+    let room = buf.len();
+    let mut input = rt.reader().take(room as u64);
+    let copied = io::copy(&mut input, &mut &mut buf[..]).inspect_err(|_| {
+        let _ = rt.eprintln("failed: standard input can't be read");
+    })?;
+    // At most `room`, which `io::copy` promises only where what is left of an input is known.
+    Ok(room.min(copied as usize))
 }
 
 // Writes all of a text to standard output.
