@@ -12,7 +12,7 @@ use omap::records::end_in;
 use omap::walk::Pieces;
 
 // A target that a piece shares with a later one, and its source there. Where it is the least found so far, and none is
-// found, its target is the end of the search.
+// found, its target is the end of the search: no Option, since each record's target is compared with it either way.
 #[derive(Clone, Copy)]
 pub struct Shared {
     pub target: u64,
