@@ -4,11 +4,10 @@ use mathlib.Core.Path.{◌≡◌, refl, sym, ap, ◌∙◌}
 use mathlib.Core.Logic.{⊎_elim}
 use Prim.Native.Nat.{ℕ, zero, suc, ◌+◌, ◌*◌, ◌/◌, ◌%◌, ◌^◌, ◌≤◌, ◌<◌, max}
 use native.Mathlib.Nat.{pow-suc, one-le-pow}
-use native.Mathlib.Numerals.{add-one}
 use native.Mathlib.Omega.{arith}
-use mathlib.Core.List.{List, [], ◌∷◌, ◌++◌, append_assoc}
-use lib.ListN.{length, drop, set, length-append}
-use Rattle.std.proofs.lemmas.List.{drop-set}
+use mathlib.Core.List.{List, [], ◌∷◌, ◌++◌, append_assoc, reverse}
+use lib.ListN.{length, take, set, length-append}
+use Rattle.std.proofs.lemmas.List.{take_more_set, reverse-append}
 use lib.Seq.{length-sets}
 use borrow.Author.Tests.{lt-ltb, le-ltb, le-leb}
 use Rattle.lent.specs.Paper.{number}
@@ -36,13 +35,13 @@ length_digits b zero n = refl
 length_digits b (suc w) n =
     length-append (digits b w (n / b)) (glyph (n % b) ∷ []) ∙ omega (arith, length_digits b w (n / b))
 
--- the digits that are left to write, before those that are written
-pub digit_next : (b k n : ℕ) (out : List ℕ) → k < length out
-    → digits b k (n / b) ++ drop k (set out k (glyph (n % b))) ≡ digits b (suc k) n ++ drop (suc k) out
+-- the digits that are left to write, before those that are written, which stand the other way round
+pub digit_next : (b k i n : ℕ) (out : List ℕ) → i < length out
+    → digits b k (n / b) ++ reverse (take (i + 1) (set out i (glyph (n % b)))) ≡ digits b (suc k) n ++ reverse (take i out)
 unfolding digits
-digit_next b k n out h =
-    rw (drop-set out k (glyph (n % b)) h, add-one)
-    (sym (append_assoc (digits b k (n / b)) (glyph (n % b) ∷ []) (drop (suc k) out)))
+digit_next b k i n out h =
+    rw (take_more_set out i (glyph (n % b)) h, reverse-append (take i out) (glyph (n % b) ∷ []))
+    (sym (append_assoc (digits b k (n / b)) (glyph (n % b) ∷ []) (reverse (take i out))))
 
 -- a number of digits that is large enough gives the same as any other
 same-places : (f g n : ℕ) → n ≤ f → n ≤ g → places_in f n ≡ places_in g n

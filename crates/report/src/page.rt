@@ -26,17 +26,17 @@ fn glyph(d: u64) -> u8
     }
 }
 
-// The last digits of n, as many as there is room for.
+// The last digits of n, as many as there is room for: written from the last one on, and turned round.
 fn write_digits(n: u64, base: u64, out: &mut [u8])
     requires { (2 ≤ base) × (base ≤ 16) }
     ensures { out.new ≡ digits base (length out.old) n }
 {
     let mut left = n;
-    // By index: a proof knows nothing of what `iter_mut().rev()` wrote.
-    for k in (0..out.len()).rev() {
-        out[k] = glyph(left % base);
+    for digit in out.iter_mut() {
+        *digit = glyph(left % base);
         left /= base;
     }
+    out.reverse();
 }
 
 // How many decimal digits n has.
