@@ -1,4 +1,5 @@
-// The clash check and the way back.
+// The clash check and the way back. Answers are compared by their fields: the face's structs are for C
+// and derive no PartialEq.
 ghost use Rattle.std.specs.Prelude.{◌≡◌};
 ghost use Rattle.clash.specs.Clash.{clash_spec, back_spec};
 ghost use Rattle.gillacorn.specs.Clashes.{pair_answer, sources_answer};

@@ -8,6 +8,8 @@ use Rattle.lent.specs.Table.{old_frame_shape, new_frame_shape}
 use Rattle.framedata.specs.Records.{OldFrame, NewFrame, old_at, new_at}
 use Rattle.framedata.specs.Attributes.{attributes, type_number}
 use Rattle.framedata.specs.declared.frame.FrameData.{FrameData}
+-- a number that may be missing, as the code has it
+pub use Rattle.lent.specs.Words.{optional as told_optional}
 
 -- Sizes are in bytes. Only new frames have a stack size and a program.
 pub record Frame : Type 0 where
@@ -82,11 +84,6 @@ old_frame_spec s i = unless (old_frame_shape s) (from_some told_old (old_at s i)
 
 unfoldable pub new_frame_spec : List ℕ → ℕ → Told Frame
 new_frame_spec s i = unless (new_frame_shape s) (from_some (λ (n : NewFrame). value (from_new n)) (new_at s i))
-
--- a number that may be missing, as the code has it
-abbrev pub told_optional : Maybe ℕ → Option ℕ
-told_optional (Some n) = some n
-told_optional None = none
 
 abbrev pub told_frame : FrameData → Frame
 told_frame f =

@@ -7,7 +7,8 @@ ghost use Rattle.framedata.specs.Step.{at_start, pick, step_spec, told_step, tol
 
 use crate::frame::{FrameData, new_frame, old_frame};
 use crate::tables::FrameTable;
-use lent::{NEW_FRAMES, OLD_FRAMES, SumRefusal, bytes_or_none};
+use lent::{NEW_FRAMES, OLD_FRAMES, SumRefusal};
+
 // Where an iteration stands: the place of the next record in each table.
 #[repr(C)]
 #[derive(Clone, Copy, Debug, PartialEq, Eq)]
@@ -78,8 +79,7 @@ impl FrameCursor {
             ≡ step_spec (bytes_of table.entry.old) (bytes_of table.entry.new) self.old }
     {
         table.shapes()?;
-        let old = bytes_or_none(table.old);
-        let new = bytes_or_none(table.new);
+        let (old, new) = table.bytes();
         match self.next_record(old, new) {
             None => Ok(None),
             Some(Next::Old) => {

@@ -8,7 +8,7 @@ ghost use Rattle.framedata.specs.Start.{place_spec, start_spec};
 
 use crate::cursor::FrameCursor;
 use crate::tables::FrameTable;
-use lent::{NEW_FRAMES, OLD_FRAMES, Refusal, bytes_or_none};
+use lent::{NEW_FRAMES, OLD_FRAMES, Refusal};
 
 // Where one table in order, of either kind, is entered for an address.
 #[tactic(auto, using(crate::proofs::Entering::place_found))]
@@ -37,8 +37,7 @@ impl<'t> FrameTable<'t> {
         ensures { told_value number result
             ≡ start_spec address (bytes_of self.entry.old) (bytes_of self.entry.new) }
     {
-        let old = bytes_or_none(self.old);
-        let new = bytes_or_none(self.new);
+        let (old, new) = self.bytes();
         OLD_FRAMES.check(old)?;
         NEW_FRAMES.check(new)?;
         Ok(FrameCursor {

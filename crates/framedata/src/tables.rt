@@ -14,12 +14,20 @@ pub struct FrameTable<'t> {
 }
 
 impl<'t> FrameTable<'t> {
+    // The bytes of the old table, and of the new one.
+    pub(crate) fn bytes(self) -> (&'t [u8], &'t [u8])
+        ensures { (result.0.now ≡ bytes_of self.entry.old) × (result.1.now ≡ bytes_of self.entry.new) }
+    {
+        (bytes_or_none(self.old), bytes_or_none(self.new))
+    }
+
     // Whether the lengths of both tables are right: the old one first.
     pub(crate) fn shapes(self) -> Result<(), Refusal>
         ensures { told_fault result ≡ shape_of_both (bytes_of self.entry.old) (bytes_of self.entry.new) }
     {
-        OLD_FRAMES.shape(bytes_or_none(self.old))?;
-        NEW_FRAMES.shape(bytes_or_none(self.new))
+        let (old, new) = self.bytes();
+        OLD_FRAMES.shape(old)?;
+        NEW_FRAMES.shape(new)
     }
 
     // Indicates whether any frame data is available.
@@ -28,8 +36,7 @@ impl<'t> FrameTable<'t> {
         ensures { told_value number result ≡ empty_spec (bytes_of self.entry.old) (bytes_of self.entry.new) }
     {
         self.shapes()?;
-        let olds = bytes_or_none(self.old).len() / OLD_FRAMES.width;
-        let news = bytes_or_none(self.new).len() / NEW_FRAMES.width;
-        Ok(olds == 0 && news == 0)
+        let (old, new) = self.bytes();
+        Ok(old.len() / OLD_FRAMES.width == 0 && new.len() / NEW_FRAMES.width == 0)
     }
 }

@@ -78,7 +78,8 @@ impl<'s> Asked<'s> {
     }
 }
 
-// Each of these asks a conversion, which is the face's function for it.
+// Each of these asks a conversion, which is the face's function for it. They differ in what it takes: one function for
+// all would have each of the twelve conversions take the question apart in a closure of its own.
 pub(crate) fn address_to_address<'s, F, A>(case: &mut Case<'s>, convert: F) -> Result<(), Broken>
 where
     F: FnOnce(u32, bool, &'s [u8], bool, &'s [u8], bool, &'s [u8], bool, &'s [u8]) -> A,

@@ -87,6 +87,7 @@ pub trait Number: Copy + Eq {
     fn read(case: &mut Case<'_>) -> Result<Self, Broken>;
 }
 
+// Written out for each type: an impl by a macro of the repository is refused by `rt ci`.
 impl Number for u8 {
     fn read(case: &mut Case<'_>) -> Result<u8, Broken> {
         Ok(u8::from_le_bytes(case.array()?))

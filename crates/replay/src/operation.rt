@@ -130,7 +130,8 @@ impl Operation {
         }
     }
 
-    // Reads the question of a case, asks it, and compares our answer with the one in the case.
+    // Reads the question of a case, asks it, and compares our answer with the one in the case. A match and no table:
+    // function pointers that are handed out are refused by `rt ci`.
     pub(crate) fn ask(self, case: &mut Case<'_>) -> Result<(), Broken> {
         match self {
             Operation::Header => headers::header(case),
