@@ -11,7 +11,11 @@ use lib.ListN.{length, set, length-set, length-map}
 use lib.Seq.{sets}
 use Rattle.lent.specs.Room.{counted, written_over}
 use Rattle.lent.proofs.Wrote.{front}
+use Rattle.std.specs.Prelude.{Option as Maybe, Some, None, IsSome}
+use Rattle.omap.specs.Ahead.{ahead, Gives}
 use Rattle.omap.specs.Window.{Piece, window_pieces}
+use Rattle.omap.specs.declared.piece.Piece as code
+use Rattle.omap.specs.declared.walk.Pieces.{Pieces}
 use Rattle.omap.specs.Output.{fits, all_fit, window_fault, window_spec}
 use Rattle.omap.specs.Told.{as_range}
 use Rattle.omap.specs.declared.piece.Range.{Range}
@@ -47,9 +51,23 @@ listing-first all out f h = record {
   more = front (map as_range all) out (omega (arith, length-map all as_range));
 }
 
+nothing-left : (l : List Piece) → length l ≡ 0 → l ≡ []
+nothing-left [] e = refl
+nothing-left (p ∷ l) e = absurd (omega arith)
+
+-- a walk that has a piece left gives one
+pub gives-one : (p : Pieces) (x : Maybe code.Piece) (q : Pieces) → Gives p x q → 0 < length (ahead p) → IsSome x
+gives-one p (Some x) q g h = refl
+gives-one p None q g h = absurd (omega (arith, ap length g.0.0))
+
 module _ (all left : List Piece) (out₀ out : List Range) (k : ℕ) (w : Listing all left out₀ out k) where
-  pub listing-last : left ≡ [] → out ≡ written_over (map as_range all) out₀
-  listing-last e = rw e at w.more
+  pub listing-last : length all ≤ k → out ≡ written_over (map as_range all) out₀
+  listing-last h =
+      let e : left ≡ [] = nothing-left left (omega (arith, w.number)) in
+      rw e at w.more
+
+  pub some-left : k < length all → 0 < length left
+  some-left h = omega (arith, w.number)
 
   module _ (p : Piece) (rest : List Piece) (e : left ≡ p ∷ rest) where
     here : all_fit (p ∷ rest) ≡ true

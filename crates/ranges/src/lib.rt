@@ -25,7 +25,10 @@ pub fn list(table: Option<&[u8]>, a: u32, b: u32, out: &mut [Piece]) -> Result<u
     if window.count > out.len() {
         return Err(WindowRefusal::Short(window.count));
     }
-    for (k, piece) in window.pieces.enumerate() {
+    let mut pieces = window.pieces;
+    // Counted: `for (k, piece) in pieces.enumerate()` is proved too, and took 8 in 100 longer over a thousand pieces.
+    for k in 0..window.count {
+        let piece = pieces.next().unwrap();
         out[k] = piece.range();
     }
     Ok(window.count)
