@@ -1,6 +1,6 @@
 // What the two kinds of address have in common, and the two kinds of offset: a plain number, and a plain place.
 ghost use Rattle.std.specs.Prelude.{◌≡◌, ℕ};
-ghost use Rattle.address_map.specs.Sections.{Offset, in_section};
+ghost use Rattle.address_map.specs.Sections.{Offset};
 ghost use Rattle.address_map.specs.Told.{rva_of, internal_rva_of, offset_of, internal_offset_of};
 
 use crate::sections::Offset;

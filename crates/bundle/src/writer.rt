@@ -1,6 +1,5 @@
 // The writer: the bundle of six parts.
-ghost use Rattle.std.specs.Prelude.{◌≡◌, ◌++◌, ◌+◌, ◌≤◌, min, length};
-ghost use Rattle.lent.specs.Le.{le_bytes};
+ghost use Rattle.std.specs.Prelude.{◌≡◌, ◌+◌, ◌≤◌, min, length};
 ghost use Rattle.lent.specs.Room.{Wrote};
 ghost use Rattle.bundle.specs.Layout.{in_order, bytes_in, span_from, spans_from, fields, trailer, joined, bundle_of};
 ghost use Rattle.bundle.specs.Writing.{part_lent, parts_of, write_spec, write_out, write_number, told_written};

@@ -13,7 +13,7 @@ const BY_MEMORY_SIZE: bool = false;
 
 const BY_RAW_SIZE: bool = true;
 
-// The section of an address, and the offset in it. By fields: the face's structs are for C and derive no PartialEq.
+// The section of an address, and the offset in it. By fields, for the reason in expected.rt.
 fn locates(by: bool, table: &[u8], address: u32, code: u32, section: u16, offset: u32)
     requires { offset_answer (section_spec (extent_by by) table.now address)
         ≡ record { code = code; section = section; offset = offset } }

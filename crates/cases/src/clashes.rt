@@ -1,5 +1,4 @@
-// The clash check and the way back. Answers are compared by their fields: the face's structs are for C
-// and derive no PartialEq.
+// The clash check and the way back. Answers are compared by their fields, for the reason in expected.rt.
 ghost use Rattle.std.specs.Prelude.{◌≡◌};
 ghost use Rattle.clash.specs.Clash.{clash_spec, back_spec};
 ghost use Rattle.gillacorn.specs.Clashes.{pair_answer, sources_answer};

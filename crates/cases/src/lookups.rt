@@ -16,8 +16,8 @@ fn translates(table: &[u8], address: u32, code: u32, value: u32)
     is(gillacorn_lookup(true, table, address), code, value);
 }
 
-// The translation of an address by the search alone, and the records that it probes. By fields: the face's
-// structs are for C and derive no PartialEq.
+// The translation of an address by the search alone, and the records that it probes. By fields, for the reason in
+// expected.rt.
 fn found(table: &[u8], address: u32, code: u32, value: u32, probes: u32)
     requires { quick_answer (quick_spec true table.now address) ≡ record { code = code; value = value; probes = probes } }
 {

@@ -29,7 +29,7 @@ pub fn source_of(piece: Piece, target: u64) -> u32
 }
 
 // The best of what is found so far and of what record i, whose target is below that, takes below the window's end to
-// the targets from `from` on.
+// the targets from `from` on. Its caller has each of the six in hand: a struct of them would be made anew for each record.
 fn better(window: Pieces, table: &[u8], i: usize, from: u64, target: u64, best: Shared) -> Shared
     requires { (table.now ≡ bytes_of window.table)
         × ((i < window.last) × ((from < best.target)

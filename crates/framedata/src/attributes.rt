@@ -43,7 +43,7 @@ fn frame_type(attributes: u16) -> FrameType
     }
 }
 
-// The attributes by the masks of pdb.
+// The attributes by the masks of pdb: a bit is a division and a remainder, as in specs/, and no plainer by a function.
 impl From<u16> for Attributes {
     ghost from_gives = { λ word read. told_attributes read ≡ attributes word };
 

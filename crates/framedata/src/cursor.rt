@@ -18,7 +18,7 @@ pub struct FrameCursor {
 }
 
 // What one step answers, with the cursor to go on from: the next frame, none where no frame is left, or a refusal.
-// Only a frame moves the cursor.
+// Only a frame moves the cursor. The list of forms in docs/DECISIONS.md has the struct, as it has `omap::cursor::Step`.
 #[derive(Clone, Copy, Debug, PartialEq, Eq)]
 pub struct FrameStep {
     pub answer: Result<Option<FrameData>, SumRefusal>,

@@ -1,13 +1,11 @@
 // A frame, and the frame at a place of one table.
-ghost use Rattle.std.specs.Prelude.{◌≡◌, ◌/◌, ◌<◌, length, ltb};
-ghost use Rattle.lent.specs.Paper.{number, told_value, unless, value};
-ghost use Rattle.lent.specs.Table.{shape_fault};
+ghost use Rattle.std.specs.Prelude.{◌≡◌, ◌/◌, ◌<◌, length};
 ghost use Rattle.framedata.specs.Records.{old_record, new_record};
 ghost use Rattle.framedata.specs.Frame.{told_old, from_new, told_frame, told_decoded, told_framed};
 ghost use Rattle.framedata.specs.Frame.{old_frame_spec, new_frame_spec};
 
 use crate::attributes::{Attributes, FrameType};
-use lent::{Kind, NEW_FRAMES, OLD_FRAMES, Refusal, SumRefusal};
+use lent::{NEW_FRAMES, OLD_FRAMES, SumRefusal};
 
 // Frame data for a code block.
 #[derive(Clone, Copy, Debug, PartialEq, Eq)]
@@ -92,22 +90,13 @@ pub(crate) fn new_frame(table: &[u8], place: usize) -> FrameData
     }
 }
 
-// Whether a table of one kind, of a right length, has a record at a place. The calls below share this and differ in how
-// a record is read: a trait over the kind, with a ghost member for what its record gives, would be longer than both.
-fn has(kind: Kind, table: &[u8], place: usize) -> Result<bool, Refusal>
-    ensures { told_value number result ≡ unless (shape_fault (record { width = kind.width; most = kind.most }) table.now)
-        (value (ltb place (length table.now / kind.width))) }
-{
-    kind.shape(table)?;
-    Ok(place < table.len() / kind.width)
-}
-
-// The frame at a place of the old table, none at or past its end.
+// The frame at a place of the old table, none at or past its end. It and the next differ in how a record is read: a
+// trait over the kind, with a ghost member for what its record gives, would be longer than both.
 #[tactic(auto, unfolding(crate::specs::Frame::old_frame_spec))]
 pub fn old_frame_at(table: &[u8], place: usize) -> Result<Option<FrameData>, SumRefusal>
     ensures { told_framed result ≡ old_frame_spec table.now place }
 {
-    if has(OLD_FRAMES, table, place)? {
+    if OLD_FRAMES.has(table, place)? {
         Ok(Some(old_frame(table, place)?))
     } else {
         Ok(None)
@@ -119,7 +108,7 @@ pub fn old_frame_at(table: &[u8], place: usize) -> Result<Option<FrameData>, Sum
 pub fn new_frame_at(table: &[u8], place: usize) -> Result<Option<FrameData>, SumRefusal>
     ensures { told_framed result ≡ new_frame_spec table.now place }
 {
-    if has(NEW_FRAMES, table, place)? {
+    if NEW_FRAMES.has(table, place)? {
         Ok(Some(new_frame(table, place)))
     } else {
         Ok(None)

@@ -4,7 +4,7 @@
 
 // As the program `window`, which says why.
 fn main(rt: HostRuntime) {
-    // One byte more than the most that is taken, so that a longer input is seen.
+    // No heap. One byte more than the most that is taken, so that a longer input is seen.
     let mut input = [0u8; 65537];
     let Ok(n) = streams::take(&rt, &mut input) else {
         return;

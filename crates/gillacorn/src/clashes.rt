@@ -1,4 +1,4 @@
-// The clash check and the way back.
+// The clash check and the way back. A code stands beside each answer, and zeros where there is none: C has no Option.
 ghost use Rattle.std.specs.Prelude.{◌≡◌};
 ghost use Rattle.clash.specs.Clash.{told_clashed, clash_spec, told_back, back_spec};
 ghost use Rattle.gillacorn.specs.Clashes.{pair_answer, sources_shown, sources_answer};

@@ -1,4 +1,5 @@
-// The codes that every answer begins with: 0 with a value, 255 for none, and a refusal by its number.
+// The codes that every answer begins with: 0 with a value, 255 for none, and a refusal by its number. C has neither
+// Option nor Result.
 ghost use Rattle.std.specs.Prelude.{◌≡◌};
 ghost use Rattle.lent.specs.Paper.{sum_number, told, told_value};
 ghost use Rattle.gillacorn.specs.Code.{coded, value_answer};
@@ -28,10 +29,7 @@ pub(crate) fn coded<T: Copy, E: Numbered>(answer: Result<Option<T>, E>, nothing:
 pub(crate) fn coded_value<T: Copy, E: Numbered>(answer: Result<T, E>, nothing: T) -> (u32, T)
     ensures { result ≡ coded nothing (told_value E.number_of answer) }
 {
-    match answer {
-        Ok(value) => (0, value),
-        Err(why) => (why.number(), nothing),
-    }
+    coded(answer.map(Some), nothing)
 }
 
 pub fn value_answer(answer: Result<Option<u32>, SumRefusal>) -> ValueAnswer

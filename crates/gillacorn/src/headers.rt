@@ -1,4 +1,4 @@
-// Section headers, their flags and names.
+// Section headers, their flags and names. A code stands beside each answer: C has no Option.
 ghost use Rattle.std.specs.Prelude.{◌≡◌, length};
 ghost use Rattle.lent.specs.Paper.{number, told};
 ghost use Rattle.pe.specs.Header.{header_spec, no_header};

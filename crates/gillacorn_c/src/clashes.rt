@@ -1,4 +1,4 @@
-// The clash check and the way back.
+// The clash check and the way back. C has no Option: an answer begins with a code.
 ghost use Rattle.std.specs.Prelude.{◌≡◌};
 ghost use Rattle.clash.specs.Clash.{clash_spec, back_spec};
 ghost use Rattle.gillacorn.specs.Clashes.{pair_answer, sources_answer};

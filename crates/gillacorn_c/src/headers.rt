@@ -1,4 +1,4 @@
-// Section headers, their flags and names.
+// Section headers, their flags and names. C has no Option: an answer begins with a code.
 ghost use Rattle.std.specs.Prelude.{◌≡◌, length};
 ghost use Rattle.pe.specs.Header.{header_spec};
 ghost use Rattle.pe.specs.Flags.{alignment_spec};

@@ -1,4 +1,4 @@
-// From an address to a section and an offset in it, and back.
+// From an address to a section and an offset in it, and back. C has no enum of Rattle's: the extent is a bool.
 ghost use Rattle.std.specs.Prelude.{◌≡◌};
 ghost use Rattle.address_map.specs.Sections.{in_section, section_spec, address_spec};
 ghost use Rattle.gillacorn.specs.Code.{value_answer};

@@ -1,5 +1,5 @@
 // A field of a table: the number of some bytes at a place.
-ghost use Rattle.std.specs.Prelude.{◌≡◌, ◌+◌, ◌≤◌, ◌<◌, length};
+ghost use Rattle.std.specs.Prelude.{◌≡◌, ◌+◌, ◌≤◌, length};
 ghost use Rattle.lent.specs.Le.{le_at};
 
 // The two bytes at `at`, which become one load wherever this is inlined.

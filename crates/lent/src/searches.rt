@@ -18,9 +18,9 @@ pub struct Searched {
     pub probes: usize,
 }
 
-// The search by halving on any table. The library's own does not tell how many records it probed. Written so that a processor need not wait: the middles of both halves are
-// reckoned while the record is loaded, and the number of turns does not depend on what is found, since all runs after
-// as many probes are `longest` records long or one less.
+// The search by halving on any table. The library's own does not tell how many records it probed. Written so that a
+// processor need not wait: the middles of both halves are reckoned while the record is loaded, and the number of turns
+// does not depend on what is found, since all runs after as many probes are `longest` records long or one less.
 #[tactic(auto, using(crate::proofs::Place::inside, crate::proofs::Place::four_each))]
 pub fn binary_search(table: &[u8], width: usize, address: u32) -> Searched
     requires { 4 ≤ width }

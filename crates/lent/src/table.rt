@@ -1,7 +1,7 @@
 // A table in lent bytes: its kind, and the refusals 1, 2 and 3 that its bytes give by themselves.
-ghost use Rattle.std.specs.Prelude.{◌≡◌, ◌≤◌, ◌<◌, cond, ltb};
+ghost use Rattle.std.specs.Prelude.{◌≡◌, ◌≤◌, ◌<◌, ◌/◌, cond, ltb, length};
 ghost use Rattle.lent.specs.Order.{rising, keys, table_fault};
-ghost use Rattle.lent.specs.Paper.{told_fault};
+ghost use Rattle.lent.specs.Paper.{number, told_fault, told_value, unless, value};
 ghost use Rattle.lent.specs.Table.{bytes_of, shape_fault};
 
 use crate::fields::u32_at;
@@ -99,7 +99,17 @@ impl Kind {
         shape(table, self.width, self.most)
     }
 
-    // The same, and whether it is in order: refusals 1, 2 and 3.
+    // Whether a table of right lengths has a record at a place.
+    pub fn has(self, table: &[u8], place: usize) -> Result<bool, Refusal>
+        ensures { told_value number result
+            ≡ unless (shape_fault (record { width = self.width; most = self.most }) table.now)
+            (value (ltb place (length table.now / self.width))) }
+    {
+        self.shape(table)?;
+        Ok(place < table.len() / self.width)
+    }
+
+    // Whether its lengths are right and it is in order: refusals 1, 2 and 3.
     #[tactic(auto, unfolding(crate::specs::Order::table_fault))]
     pub fn check(self, table: &[u8]) -> Result<(), Refusal>
         ensures { told_fault result ≡ table_fault (record { width = self.width; most = self.most }) table.now }

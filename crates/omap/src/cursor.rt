@@ -38,7 +38,8 @@ pub enum StepRefusal {
 }
 
 // What a step answers: where a piece goes, or none if no piece is left. A cursor is handed back with every answer: the
-// next one, or the one left behind; with a refusal, the one that was stepped.
+// next one, or the one left behind; with a refusal, the one that was stepped. The list of forms in docs/DECISIONS.md
+// has the struct, as it has `framedata::FrameStep`.
 #[derive(Clone, Copy)]
 pub struct Step {
     pub answer: Result<Option<Range>, StepRefusal>,
@@ -192,6 +193,7 @@ impl Cursor {
     {
         let records = bytes_or_none(table);
         OMAP.shape(records)?;
+        // Nothing is counted: a part that is not mapped is passed over, in a table that need not be in order.
         while self.address < self.end {
             let turned = pull(records, *self)?;
             *self = turned.next;

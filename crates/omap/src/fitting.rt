@@ -38,7 +38,8 @@ impl<'t> Fitting<'t> {
         Ok(Fitting { pieces, count })
     }
 
-    // Writes them as pairs of start and end.
+    // Writes them as pairs of start and end. By place: no contract tells what stands in `out` after an adapter of its
+    // mutable chunks.
     pub(crate) fn fill(self, out: &mut [u32])
         requires { 2 * self.count ≤ length out.old }
         ensures { out.new ≡ written_over (flat (ahead self.entry.pieces)) out.old }

@@ -40,8 +40,7 @@ pub(crate) fn entry_at(table: &[u8], place: usize) -> Entry
 pub fn record_at(table: &[u8], place: usize) -> Result<Option<Entry>, Refusal>
     ensures { told number result ≡ record_spec table.now place }
 {
-    OMAP.shape(table)?;
-    if place < table.len() / OMAP.width {
+    if OMAP.has(table, place)? {
         Ok(Some(entry_at(table, place)))
     } else {
         Ok(None)

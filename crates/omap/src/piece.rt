@@ -23,7 +23,7 @@ impl Piece {
     ghost use Rattle.omap.specs.Output.{beside_start, fits};
     ghost use Rattle.omap.specs.Told.{as_range, told_piece};
 
-    // Whether it fits 32 bits: refusal 4 if not.
+    // Whether it fits 32 bits: refusal 4 if not. docs/PROMISES.md names it, and so `range` is no Option.
     #[tactic(auto, unfolding(crate::specs::Output::fits))]
     pub fn fits(self) -> bool
         ensures { result ≡ fits (told_piece self) }

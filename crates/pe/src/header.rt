@@ -78,8 +78,7 @@ fn decoded(table: &[u8], place: usize) -> ImageSectionHeader
 pub fn given_at(table: &[u8], place: usize) -> Result<bool, Refusal>
     ensures { told_given result (header_at table.now place) ≡ header_spec table.now place }
 {
-    SECTIONS.shape(table)?;
-    Ok(place < table.len() / SECTIONS.width)
+    SECTIONS.has(table, place)
 }
 
 // The header at a place of a table.

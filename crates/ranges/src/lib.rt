@@ -15,7 +15,8 @@ use omap::windows::WindowRefusal;
 pub use omap::piece::Range as Piece;
 
 // The pieces of a..b as records of start and end, in source order, with the answers of `omap::windows::window`; an entry
-// of the lent list is a record. A refused call writes nothing.
+// of the lent list is a record. A refused call writes nothing. `window`, `drain` and this are refused alike and write
+// each in its way: one function for all would take that as a closure, and its promise with it.
 #[tactic(auto, unfolding(omap::specs::Output::window_spec, crate::specs::ListOut::list_out, lent::specs::Room::room_for))]
 pub fn list(table: Option<&[u8]>, a: u32, b: u32, out: &mut [Piece]) -> Result<usize, WindowRefusal>
     ensures answer { told_windowed result ≡ window_spec (is_some table.entry) (bytes_of table.entry) a b (length out.old) }

@@ -3,7 +3,7 @@
 
 // As the program `frames`: one function for both would have to ask of the text, as a closure, that it is within `out`.
 fn main(rt: HostRuntime) {
-    // One byte more than the most that is taken, so that a longer input is seen.
+    // No heap. One byte more than the most that is taken, so that a longer input is seen.
     let mut input = [0u8; 65537];
     let Ok(n) = streams::take(&rt, &mut input) else {
         return;
