@@ -99,6 +99,7 @@ pub fn gillacorn_bundle_read(file: &[u8]) -> SpansAnswer
     spans_answer(bundle::read(file))
 }
 
+// How many bytes are needed, as `pieces_answer` has how many pieces, and why they are two.
 fn bytes_answer(answer: Result<usize, WriteRefusal>) -> BytesAnswer
     ensures { result ≡ bytes_answer (told_written answer) }
 {

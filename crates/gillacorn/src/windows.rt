@@ -34,6 +34,7 @@ pub struct StepAnswer {
     pub cursor: Cursor,
 }
 
+// Refusal 5 has its number in an enum of its operation, here as for a bundle: a trait for both would be longer.
 pub fn pieces_answer(answer: Result<usize, WindowRefusal>) -> PiecesAnswer
     ensures { result ≡ pieces_answer (told_windowed answer) }
 {

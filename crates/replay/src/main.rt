@@ -61,6 +61,7 @@ fn compared(operation: Operation, bytes: &[u8]) -> Result<bool, Broken> {
 fn replay(rt: &impl Print, file: &[u8]) -> io::Result<()> {
     let mut report = Report::new();
     let mut rest = file;
+    // No `for`: how long a case is, it tells itself.
     while !rest.is_empty() {
         let at = file.len() - rest.len();
         let Ok((operation, agrees)) = next_case(&mut rest) else {
