@@ -1,5 +1,5 @@
 // The targets that a piece of a window shares with later ones.
-ghost use Rattle.std.specs.Prelude.{◌≡◌, ◌+◌, ◌-◌, ◌*◌, ◌≤◌, ◌<◌};
+ghost use Rattle.std.specs.Prelude.{◌≡◌, ◌+◌, ◌-◌, ◌*◌, ◌≤◌, ◌<◌, true, is_some};
 ghost use Rattle.lent.specs.Le.{le_at};
 ghost use Rattle.lent.specs.Table.{bytes_of};
 ghost use Rattle.omap.specs.Records.{rest};
@@ -33,7 +33,7 @@ pub fn source_of(piece: Piece, target: u64) -> u32
 fn better(window: Pieces, table: &[u8], i: usize, from: u64, target: u64, best: Shared) -> Shared
     requires { (table.now ≡ bytes_of window.table)
         × ((i < window.last) × ((from < best.target)
-        × ((target ≡ le_at 4 table.now (8 * i + 4)) × (target < best.target)))) }
+        × ((target ≡ le_at 4 table.now (8 * i + 4)) × ((target < best.target) × (is_some window.table ≡ true))))) }
     ensures { Better table.now window.entry.b i from best result }
 {
     if target == 0 {
@@ -56,7 +56,8 @@ fn better(window: Pieces, table: &[u8], i: usize, from: u64, target: u64, best: 
 // The first of the targets of a piece to which one of the records that a walk still has to come takes an address below
 // the window's end. A record costs one load and one comparison if its target is not below what is found already.
 pub fn first_shared(window: Pieces, piece: Piece) -> Option<Shared>
-    requires { 0 < piece.size }
+    requires there { is_some window.table ≡ true }
+    requires some { 0 < piece.size }
     ensures { told_shared result
         ≡ first_shared (pieces 0 window.entry.b (rest (bytes_of window.entry.table) window.entry.next)) piece.to piece.size }
 {

@@ -1,7 +1,10 @@
 -- What the walk over a window's pieces hands to those that go by it. No public promise cites this file.
-use Rattle.std.specs.Prelude.{ℕ, zero, suc, ◌+◌, ◌-◌, ◌/◌, ◌≤◌, ◌<◌, ◌≡◌, Bool, true, false, List, [], ◌∷◌, length}
+use Rattle.std.specs.Prelude.{ℕ, zero, suc, ◌+◌, ◌-◌, ◌/◌, ◌≤◌, ◌<◌, ◌≡◌, Bool, true, false, List, [], ◌∷◌, length, is_some}
+use Rattle.std.specs.Prelude.{Option as Maybe}
+use Rattle.std.specs.Borrow.{Bor}
 use Rattle.std.proofs.Math.Option.{Option, some}
 use Rattle.lent.specs.Order.{key_at}
+use Rattle.lent.specs.Table.{bytes_of}
 use Rattle.omap.specs.Records.{entry_at, records, rest}
 use Rattle.omap.specs.Window.{Piece, next_of, piece_of, pieces, itself, identity}
 
@@ -25,6 +28,10 @@ pub record Below (s : List ℕ) (b r : ℕ) : Type 0 where
   pub within : r ≤ length s / 8
   pub before : (j : ℕ) → j < r → key_at 8 s j < b
   pub after : (j : ℕ) → r ≤ j → j < length s / 8 → b ≤ key_at 8 s j
+
+-- the same of a table that is there; of an absent one nothing is said
+abbrev pub Until : Maybe (Bor (List ℕ)) → ℕ → ℕ → Type 0
+Until table b r = is_some table ≡ true → Below (bytes_of table) b r
 
 -- the records before place r have no piece from a on
 abbrev pub Begins : List ℕ → ℕ → ℕ → Type 0

@@ -3,7 +3,7 @@
 ghost use Rattle.std.specs.Prelude.{◌≡◌, true};
 ghost use Rattle.lent.specs.Order.{rising, keys};
 ghost use Rattle.lent.specs.Table.{bytes_of};
-ghost use Rattle.omap.specs.Walk.{Below};
+ghost use Rattle.omap.specs.Walk.{Until};
 
 use crate::piece::Piece;
 use crate::records::{below, end_in, first_from};
@@ -21,7 +21,7 @@ pub struct Pieces<'t> {
     pub next: usize,
     pub last: usize,
     ghost in_order: { rising (keys 8 (bytes_of table)) ≡ true },
-    ghost until: { Below (bytes_of table) b last },
+    ghost until: { Until table b last },
 }
 
 // A piece, and the place after its record.
@@ -75,6 +75,7 @@ impl<'t> Pieces<'t> {
             return self.only();
         };
         for place in self.next..self.last {
+            let after = place + 1;
             let target = u32_at(table, OMAP.width * place + 4);
             let mapped = target != 0;
             if mapped {
@@ -87,10 +88,7 @@ impl<'t> Pieces<'t> {
                         size: (end - from) as u64,
                         to: (from - source) as u64 + target as u64,
                     };
-                    return Some(Next {
-                        piece,
-                        after: place + 1,
-                    });
+                    return Some(Next { piece, after });
                 }
             }
         }

@@ -34,7 +34,7 @@ pub loop-i-preserved : goal.loop-i-preserved
 loop-i-preserved c =
     let a = c.args in
     let s = c.bytes_or_none-table.result.now in
-    let until = rw (← c.bytes_or_none-table.ensures) at a.window.until in
+    let until = (rw (← c.bytes_or_none-table.ensures) at a.window.until) c.requires.there in
     let order = rw (← c.bytes_or_none-table.ensures) at a.window.in_order in
     let more = searching-more s a.window.b a.piece.to (a.piece.to + a.piece.size) a.window.next c.loop-i.i c.loop-i.best
     c.loop-i.invariant in
@@ -52,7 +52,7 @@ pub returns-then-best-end : goal.returns-then-best-end
 returns-then-best-end c =
     let a = c.args in
     let s = c.bytes_or_none-table.result.now in
-    let until = rw (← c.bytes_or_none-table.ensures) at a.window.until in
+    let until = (rw (← c.bytes_or_none-table.ensures) at a.window.until) c.requires.there in
     let order = rw (← c.bytes_or_none-table.ensures) at a.window.in_order in
     rw (← c.bytes_or_none-table.ensures) (
     searching-some s a.window.b a.piece.to (a.piece.to + a.piece.size) a.window.next c.loop-i.i c.loop-i.best
@@ -63,7 +63,7 @@ pub returns-else-best-end : goal.returns-else-best-end
 returns-else-best-end c =
     let a = c.args in
     let s = c.bytes_or_none-table.result.now in
-    let until = rw (← c.bytes_or_none-table.ensures) at a.window.until in
+    let until = (rw (← c.bytes_or_none-table.ensures) at a.window.until) c.requires.there in
     let order = rw (← c.bytes_or_none-table.ensures) at a.window.in_order in
     rw (← c.bytes_or_none-table.ensures) (
     searching-none s a.window.b a.piece.to (a.piece.to + a.piece.size) a.window.next c.loop-i.i c.loop-i.best
