@@ -1,8 +1,10 @@
 -- The rule of a table of classes, and that no range of RFC 3629 tells a byte from the first of its class: tests that
 -- antt computes over all bytes, carried to each of them.
 -- Assumes nothing.
-use mathlib.Core.Path.{◌≡◌, refl}
+use mathlib.Core.Path.{◌≡◌, refl, subst}
+use mathlib.Core.Logic.{◌≢◌}
 use Prim.Native.Nat.{ℕ, ◌<◌}
+use native.Mathlib.Omega.{arith}
 use mathlib.Core.Bool.{Bool, true, false, cond, ◌||◌}
 use mathlib.Core.List.{List, [], ◌∷◌, flatten}
 use mathlib.Core.Option.{Option, none, some}
@@ -32,6 +34,12 @@ pub classed : (table : List ℕ) → Tested table → Classed table
 classed table t b h =
     eqb-true (get_or table b 0) (class_of b) (each (λ (k : ℕ). eqb (get_or table k 0) (class_of k)) t.test b h)
 
+-- a class goes by a byte of its own
+pub class-again : (b : ℕ) → b < 256 → class_of (class_of b) ≡ class_of b
+unfolding class_of flatten
+class-again b h =
+    eqb-true (class_of (class_of b)) (class_of b) (each (λ (k : ℕ). eqb (class_of (class_of k)) (class_of k)) refl b h)
+
 -- the bytes of a class lead alike
 pub class-leads : (b : ℕ) → b < 256 → after_lead UTF8-char (class_of b) ≡ after_lead UTF8-char b
 unfolding class_of flatten after_lead
@@ -51,6 +59,20 @@ class-follows follow.Low = alike follow.Low refl
 class-follows follow.High = alike follow.High refl
 class-follows follow.NotLow = alike follow.NotLow refl
 class-follows follow.NotHigh = alike follow.NotHigh refl
+
+zero-fails : (f : Follow) → holds (following f) 0 ≡ false
+zero-fails follow.Any = refl
+zero-fails follow.Low = refl
+zero-fails follow.High = refl
+zero-fails follow.NotLow = refl
+zero-fails follow.NotHigh = refl
+
+-- a zero follows no byte
+pub follow-not-zero : (f : Follow) (b : ℕ) → holds (following f) b ≡ true → b ≢ 0
+follow-not-zero f b t z =
+    let e : holds (following f) 0 ≡ true = subst (λ (k : ℕ). holds (following f) k ≡ true) z t in
+    let wrong : ◌≡◌ {A = ℕ} 0 1 = cc (zero-fails f, e) in
+    absurd (omega arith)
 
 -- the classes whose bytes may come next
 abbrev pub followers : Follow → List ℕ

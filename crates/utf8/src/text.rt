@@ -15,16 +15,15 @@ pub fn text_length(s: &[u8]) -> usize
 {
     // Most texts are ASCII, which needs no look at classes.
     for (i, b) in s.iter().enumerate() {
-        match *b {
-            0 => return i,
-            0x01..=0x7F => {}
-            _ => return length_by_class(s, i),
+        if !matches!(*b, 0x01..=0x7F) {
+            return if *b == 0 { i } else { length_by_class(s, i) };
         }
     }
     s.len()
 }
 
 // The same where all before `from` is read, and a character begins there.
+#[inline(never)]
 #[tactic(auto, using(crate::proofs::Reading::rest_steps))]
 fn length_by_class(s: &[u8], from: usize) -> usize
     requires { Reading s.now (some []) from }
