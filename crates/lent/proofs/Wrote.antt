@@ -1,13 +1,14 @@
 -- Bytes written one after the other: what calls leave that write them, and where a loop stands that does.
 -- Assumes nothing.
 use mathlib.Core.Path.{◌≡◌, refl, sym, ap, ◌∙◌}
-use Prim.Native.Nat.{ℕ, suc, ◌+◌, ◌-◌, ◌≤◌}
+use Prim.Native.Nat.{ℕ, suc, ◌+◌, ◌-◌, ◌≤◌, ◌<◌}
 use native.Mathlib.Nat.{zero-add, add-zero}
+use native.Mathlib.Numerals.{add-one}
 use native.Mathlib.Omega.{arith}
 use mathlib.Core.List.{List, [], ◌∷◌, ◌++◌, append_assoc}
 use borrow.Rule.Slice.PartMut.{put_mid}
-use lib.ListN.{length, take, drop, set, length-append}
-use lib.Seq.{sets, sets-eq, drop-drop, length-sets}
+use lib.ListN.{length, take, drop, set, get_or, length-append}
+use lib.Seq.{sets, sets-eq, drop-cons, drop-drop, length-sets}
 use Rattle.lent.specs.Room.{written_over, Wrote}
 
 -- entries written from the front on
@@ -62,6 +63,13 @@ module _ {all before whole bytes : List ℕ} {at k : ℕ} (a rest : List ℕ) (w
     as-will-be = rw (v.bytes, v.place)
         (sym (sets-append bytes k a rest) ∙ ap (λ (l : List ℕ). sets bytes k l) (sym e) ∙ w.as-will-be);
   }
+
+-- one byte less to copy
+pub byte-less : (word out : List ℕ) (at i : ℕ) → i < length word
+    → sets (set out (at + i) (get_or word i 0)) (at + (i + 1)) (drop (i + 1) word) ≡ sets out (at + i) (drop i word)
+byte-less word out at i h =
+    let e : at + (i + 1) ≡ suc (at + i) = omega arith in
+    rw (drop-cons word i 0 h, e, add-one)
 
 -- some bytes copied over a part as long as they are
 pub copied : (given before part : List ℕ) (at : ℕ) → at + length given ≤ length before → part ≡ given
