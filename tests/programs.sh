@@ -25,6 +25,27 @@ after() { # number of bytes, a file, the command
         exec @ARGV or die' "$@"
 }
 
+# All of a file as one message on a socket: a reader that asks for less of it than there is loses the rest.
+message() { # a file, the command
+    perl -MSocket -e '
+        my $file = shift;
+        socketpair my $read, my $write, AF_UNIX, SOCK_SEQPACKET, PF_UNSPEC or die;
+        open my $from, "<:raw", $file or die;
+        my $bytes = do { local $/; <$from> };
+        syswrite($write, $bytes) == length $bytes or die;
+        close $write;
+        open STDIN, "<&", $read or die;
+        exec @ARGV or die' "$@"
+}
+
+# An input of some 16,000 bytes.
+long() { # program
+    perl -e '
+        print $ARGV[0] eq "window"
+            ? pack("V*", 0, 0x10000000, map { 16 * $_, 0x1000 + 8 * $_ } 1 .. 2000)
+            : pack("V", 16000) . join("", map { pack("V3v2", 16 * $_, 8, 0, 0, 0) } 1 .. 1000)' "$1"
+}
+
 complains() { # of what, then as `leaves`
     echo "failed: standard $1" >"$work/complaint"
     : >"$work/expected"
@@ -59,6 +80,11 @@ for program in window frames; do
     complains "input can't be read" "$program, a read that fails at the end" 2 after "$size" "$input" "${run[@]}"
     complains "input can't be read" "$program, a folder" 2 "${run[@]}" <"$here"
     complains "input can't be read" "$program, a closed input" 2 "${run[@]}" <&-
+
+    long "$program" >"$work/long"
+    "${run[@]}" <"$work/long" >"$work/expected"
+    : >"$work/complaint"
+    leaves "$program, an input that comes as one message" 0 message "$work/long" "${run[@]}"
 
     echo "failed: standard output can't be written" >"$work/complaint"
     : >"$work/expected"

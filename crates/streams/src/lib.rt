@@ -13,13 +13,20 @@ use std::io::Read;
 pub fn take(rt: &(impl Input + Eprint), buf: &mut [u8]) -> io::Result<usize>
     ensures { Held result buf.new }
 {
-    let room = buf.len();
-    let mut input = rt.reader().take(room as u64);
-    let copied = io::copy(&mut input, &mut &mut buf[..]).inspect_err(|_| {
-        let _ = rt.eprintln("failed: standard input can't be read");
-    })?;
-    // At most `room`, which `io::copy` promises only where what is left of an input is known.
-    Ok(room.min(copied as usize))
+    let mut input = rt.reader();
+    let mut done = 0;
+    // Each read has room for all that may still come: `io::copy` reads by 8,192 bytes, and of a longer message on a socket
+    // the rest is lost without a word.
+    while done < buf.len() {
+        let more = input.read(&mut buf[done..]).inspect_err(|_| {
+            let _ = rt.eprintln("failed: standard input can't be read");
+        })?;
+        if more == 0 {
+            return Ok(done);
+        }
+        done += more;
+    }
+    Ok(done)
 }
 
 // Writes all of a text to standard output.
