@@ -1,5 +1,5 @@
 // Sections and the conversions of an address map.
-use crate::case::{Broken, Case, marked};
+use crate::case::{Broken, Case};
 use gillacorn::code::ValueAnswer;
 use gillacorn::sections::{OffsetAnswer, gillacorn_section_offset_by, gillacorn_virtual_address};
 
@@ -65,10 +65,10 @@ struct Asked<'s> {
 
 impl<'s> Asked<'s> {
     fn read(case: &mut Case<'s>) -> Result<Asked<'s>, Broken> {
-        let (p1, t1) = marked(case.table()?);
-        let (p2, t2) = marked(case.table()?);
-        let (p3, t3) = marked(case.table()?);
-        let (p4, t4) = marked(case.table()?);
+        let (p1, t1) = case.table()?;
+        let (p2, t2) = case.table()?;
+        let (p3, t3) = case.table()?;
+        let (p4, t4) = case.table()?;
         Ok(Asked {
             tables: (p1, t1, p2, t2, p3, t3, p4, t4),
             by_raw_size: case.flag()?,

@@ -5,7 +5,7 @@
 pub struct Broken;
 
 // What is left of a case, and whether all of its answer that was read is ours.
-#[derive(Drop)]
+#[derive(Clone, Copy)]
 pub struct Case<'s> {
     rest: &'s [u8],
     agrees: bool,
@@ -34,21 +34,25 @@ impl<'s> Case<'s> {
         Ok(mark == 1)
     }
 
-    // The next table, if it is present.
-    pub(crate) fn table(&mut self) -> Result<Option<&'s [u8]>, Broken> {
+    // The next table as the face takes it, by C's interface: whether it is present, and its bytes. Those beside the mark
+    // of an absent one are lent as well, since the face must not read them.
+    pub(crate) fn table(&mut self) -> Result<(bool, &'s [u8]), Broken> {
         let mark: u8 = self.number()?;
         let length: u16 = self.number()?;
         let bytes = self.rest.split_off(..usize::from(length)).ok_or(Broken)?;
         match mark {
-            0 => Ok(None),
-            1 => Ok(Some(bytes)),
+            0 => Ok((false, bytes)),
+            1 => Ok((true, bytes)),
             _ => Err(Broken),
         }
     }
 
     // The next table, for a question that is asked only of a present one.
     pub(crate) fn present_table(&mut self) -> Result<&'s [u8], Broken> {
-        self.table()?.ok_or(Broken)
+        match self.table()? {
+            (true, bytes) => Ok(bytes),
+            (false, _) => Err(Broken),
+        }
     }
 
     // Compares the next number of the answer with ours.
@@ -70,6 +74,11 @@ impl<'s> Case<'s> {
         let theirs: u8 = self.number()?;
         self.agrees &= N::from(theirs) == ours;
         Ok(())
+    }
+
+    // Agrees only where another reading of the same case does.
+    pub(crate) fn agree_with(&mut self, other: Case<'_>) {
+        self.agrees &= other.agrees;
     }
 
     // Whether the answer is ours, once all of the case is read.
@@ -112,11 +121,6 @@ impl Number for usize {
         let place = u32::read(case)?;
         Ok(place as usize)
     }
-}
-
-// A table as the face takes it, by C's interface: whether it is present, and its bytes.
-pub(crate) fn marked(table: Option<&[u8]>) -> (bool, &[u8]) {
-    (table.is_some(), table.unwrap_or(&[]))
 }
 
 // Marks as the bits of a number, the first as the lowest.

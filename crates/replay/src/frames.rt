@@ -1,5 +1,5 @@
 // Frames.
-use crate::case::{Broken, Case, bits, marked};
+use crate::case::{Broken, Case, bits};
 use framedata::FrameCursor;
 use gillacorn::frames::{
     Frame, FrameAnswer, gillacorn_frame_next, gillacorn_frames_at, gillacorn_frames_empty,
@@ -18,8 +18,8 @@ where
 }
 
 pub(crate) fn next(case: &mut Case<'_>) -> Result<(), Broken> {
-    let (has_old, old) = marked(case.table()?);
-    let (has_new, new) = marked(case.table()?);
+    let (has_old, old) = case.table()?;
+    let (has_new, new) = case.table()?;
     let cursor = FrameCursor {
         old_index: case.number()?,
         new_index: case.number()?,
@@ -31,16 +31,16 @@ pub(crate) fn next(case: &mut Case<'_>) -> Result<(), Broken> {
 }
 
 pub(crate) fn from_address(case: &mut Case<'_>) -> Result<(), Broken> {
-    let (has_old, old) = marked(case.table()?);
-    let (has_new, new) = marked(case.table()?);
+    let (has_old, old) = case.table()?;
+    let (has_new, new) = case.table()?;
     let ours = gillacorn_frames_at(case.number()?, has_old, old, has_new, new);
     case.compare_byte(ours.code)?;
     case.compare_all(&[ours.cursor.old_index, ours.cursor.new_index])
 }
 
 pub(crate) fn empty(case: &mut Case<'_>) -> Result<(), Broken> {
-    let (has_old, old) = marked(case.table()?);
-    let (has_new, new) = marked(case.table()?);
+    let (has_old, old) = case.table()?;
+    let (has_new, new) = case.table()?;
     let ours = gillacorn_frames_empty(has_old, old, has_new, new);
     case.compare_byte(ours.code)?;
     case.compare(ours.value)

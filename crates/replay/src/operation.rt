@@ -192,10 +192,9 @@ impl TryFrom<u8> for Operation {
     type Error = Broken;
 
     fn try_from(number: u8) -> Result<Operation, Broken> {
-        Operation::ALL
-            .into_iter()
-            .find(|operation| *operation as u8 == number)
-            .ok_or(Broken)
+        // By its place: to search through them all was a fifth of a run's instructions.
+        let place = usize::from(number).checked_sub(1).ok_or(Broken)?;
+        Operation::ALL.get(place).copied().ok_or(Broken)
     }
 }
 

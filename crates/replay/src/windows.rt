@@ -1,5 +1,5 @@
 // Windows, and cursors over them.
-use crate::case::{Broken, Case, marked};
+use crate::case::{Broken, Case};
 use gillacorn::windows::{
     PiecesAnswer, gillacorn_cursor_start, gillacorn_cursor_step, gillacorn_window,
 };
@@ -13,7 +13,7 @@ pub const MOST: usize = 128;
 pub const MARK: u32 = 0xA5A5A500;
 
 pub(crate) fn window(case: &mut Case<'_>) -> Result<(), Broken> {
-    let (present, table) = marked(case.table()?);
+    let (present, table) = case.table()?;
     let a = case.number()?;
     let b = case.number()?;
     let places: u16 = case.number()?;
@@ -31,14 +31,14 @@ pub(crate) fn compare_pieces(case: &mut Case<'_>, ours: PiecesAnswer) -> Result<
 }
 
 pub(crate) fn cursor_start(case: &mut Case<'_>) -> Result<(), Broken> {
-    let (present, table) = marked(case.table()?);
+    let (present, table) = case.table()?;
     let ours = gillacorn_cursor_start(present, table, case.number()?, case.number()?);
     case.compare_byte(ours.code)?;
     compare_cursor(case, ours.cursor)
 }
 
 pub(crate) fn cursor_step(case: &mut Case<'_>) -> Result<(), Broken> {
-    let (present, table) = marked(case.table()?);
+    let (present, table) = case.table()?;
     let cursor = Cursor {
         address: case.number()?,
         end: case.number()?,
