@@ -30,11 +30,9 @@ pub struct QuickAnswer {
 fn record_answer(answer: Result<Option<Entry>, Refusal>) -> RecordAnswer
     ensures { result ≡ record_answer (told number answer) }
 {
-    let none = Entry {
-        source: 0,
-        target: 0,
-    };
-    let (code, Entry { source, target }) = coded(answer, none);
+    // One field at a time: both in one go pass through memory, and a question takes twice as long.
+    let (code, source) = coded(answer.map(|found| found.map(|record| record.source)), 0);
+    let (_, target) = coded(answer.map(|found| found.map(|record| record.target)), 0);
     RecordAnswer {
         code,
         source,
