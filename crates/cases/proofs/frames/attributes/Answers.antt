@@ -1,0 +1,10 @@
+use mathlib.Core.Path.{ap}
+use mathlib.Core.Bool.{not}
+use Rattle.gillacorn.specs.declared.frames.FrameAnswer.{FrameAnswer}
+use Rattle.cases.proofs.Opened.{frames}
+use Rattle.cases.proofs.frames.attributes.Goals as goal
+
+-- The last case by its name, so that the check misses a case that went.
+pub expect-requires-6 : goal.expect-requires-6
+unfolding frames
+expect-requires-6 c = ap (λ (x : FrameAnswer). not x.frame.uses_base_pointer) c.gillacorn_old_frame-told.ensures

@@ -1,0 +1,8 @@
+use mathlib.Core.Path.{refl}
+use Rattle.cases.proofs.Opened.{lookups}
+use Rattle.cases.proofs.lookups.full.Goals as goal
+
+-- The last case by its name, so that the check misses a case that went.
+pub translates-requires-8 : goal.translates-requires-8
+unfolding lookups
+translates-requires-8 c = refl

@@ -1,0 +1,8 @@
+use mathlib.Core.Path.{refl}
+use Rattle.cases.proofs.Opened.{lookups}
+use Rattle.cases.proofs.lookups.quick.Goals as goal
+
+-- The last case by its name, so that the check misses a case that went.
+pub found-requires-10 : goal.found-requires-10
+unfolding lookups
+found-requires-10 c = refl
