@@ -47,5 +47,28 @@ length_bundle p =
     length-append (joined (in_order p)) (trailer (spans_from 0 (in_order p)))
     ∙ omega (arith, length-spans 0 (in_order p))
 
+-- the length of six parts is the sum of theirs
+pub joined-lengths : (p : Parts) → length (joined (in_order p)) ≡ length (bytes_in p.original_sections)
+    + (length (bytes_in p.transformed_sections)
+    + (length (bytes_in p.to_original)
+    + (length (bytes_in p.to_transformed) + (length (bytes_in p.old_frames) + length (bytes_in p.new_frames)))))
+unfolding joined
+joined-lengths p =
+    let six = length-append (bytes_in p.new_frames) [] in
+    let five : List (Option (List ℕ)) = p.new_frames ∷ [] in
+    let four : List (Option (List ℕ)) = p.old_frames ∷ five in
+    let three : List (Option (List ℕ)) = p.to_transformed ∷ four in
+    let two : List (Option (List ℕ)) = p.to_original ∷ three in
+    let one : List (Option (List ℕ)) = p.transformed_sections ∷ two in
+    omega (
+      arith,
+      six,
+      length-append (bytes_in p.old_frames) (joined five),
+      length-append (bytes_in p.to_transformed) (joined four),
+      length-append (bytes_in p.to_original) (joined three),
+      length-append (bytes_in p.transformed_sections) (joined two),
+      length-append (bytes_in p.original_sections) (joined one),
+    )
+
 pub six-fields : (p : Parts) → length (all_fields (spans_from 0 (in_order p))) ≡ 48
 six-fields p = omega (arith, length-all-fields (spans_from 0 (in_order p)), length-spans 0 (in_order p))

@@ -40,12 +40,16 @@ front l =
     (λ (e : utf8 (before_zero l) ≡ false). rw e)
     (which (utf8 (before_zero l)))
 
--- the name of a header that the table has is that of the header's first eight bytes
-pub name-held : (s : List ℕ) (i : ℕ) → value (header_at s i) ≡ header_spec s i
+-- the name in a header is that of its first eight bytes
+pub name-held : (s : List ℕ) (i : ℕ) → if_utf8 (before_zero (take 8 (drop (40 * i) s))) ≡ name_of (value (header_at s i))
+unfolding header_at
+name-held s i = ap (λ (k : ℕ). if_utf8 (before_zero (take 8 (drop k s)))) (sym (add-zero (40 * i)))
+
+-- so is that of a header that the table has
+pub name-there : (s : List ℕ) (i : ℕ) → value (header_at s i) ≡ header_spec s i
     → if_utf8 (before_zero (take 8 (drop (40 * i) s))) ≡ name_spec s (i + 1)
-unfolding header_at name_spec
-name-held s i v =
-    rw (add-one, ← v) (ap (λ (k : ℕ). if_utf8 (before_zero (take 8 (drop k s)))) (sym (add-zero (40 * i))))
+unfolding name_spec
+name-there s i v = rw (add-one, ← v) (name-held s i)
 
 -- a header is there, or the name is empty
 there-or-empty : (o : Option ℕ) (t : Bool) (h : ImageSectionHeader)
@@ -66,10 +70,6 @@ lies_empty s n e =
     record { numbered = λ h. absurd (omega arith); inside = λ h. absurd (omega arith); part = rw e }
 
 module _ (s : List ℕ) (i : ℕ) where
-  name-there : value (header_at s i) ≡ header_spec s i
-      → if_utf8 (before_zero (take 8 (drop (40 * i) s))) ≡ name_spec s (suc i)
-  name-there v = name-held s i v ∙ rw add-one
-
   lies-there : value (header_at s i) ≡ header_spec s i → Lies s (suc i)
   lies-there v =
       let eight = take 8 (drop (40 * i) s) in
@@ -78,10 +78,11 @@ module _ (s : List ℕ) (i : ℕ) where
       let short : length p ≤ 8 = omega (arith, ap length (front eight), part, length-take 8 (drop (40 * i) s)) in
       let q : p ≡ take (length p) (drop (40 * i) s) = sym (front eight) ∙ take-take (length p) 8 (drop (40 * i) s) short in
       let one : suc i - 1 ≡ i = omega arith in
+      let held : p ≡ name_spec s (suc i) = name-there s i v ∙ rw add-one in
       record {
         numbered = λ h. omega arith;
-        inside = λ h. omega (arith, found s i v, ap length (name-there v));
-        part = rw (← (name-there v), one) q;
+        inside = λ h. omega (arith, found s i v, ap length held);
+        part = rw (← held, one) q;
       }
 
 pub lies : (s : List ℕ) (n : ℕ) → Lies s n

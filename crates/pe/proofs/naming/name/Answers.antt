@@ -3,7 +3,7 @@ use Prim.Native.Nat.{◌+◌, ◌-◌, ◌*◌}
 use native.Mathlib.Omega.{arith}
 use lib.ListN.{length, take, drop}
 use Rattle.pe.proofs.HeaderAnswers.{found}
-use Rattle.pe.proofs.Names.{front, name-held}
+use Rattle.pe.proofs.Names.{front, name-there}
 use Rattle.pe.proofs.naming.name.Goals as goal
 
 pub slice_bounds-field-end : goal.slice_bounds-field-end
@@ -22,4 +22,4 @@ returns-in-Ok-true c =
     let there = rw c.in-Ok-true.field-0-test at c.in-Ok-true.ensures in
     let eight : 40 * i + 8 - 40 * i ≡ 8 = omega arith in
     let number : c.args.number ≡ i + 1 = omega arith in
-    rw (c.text_length.ensures, number, eight) (front (take 8 (drop (40 * i) s)) ∙ name-held s i there)
+    rw (c.text_length.ensures, number, eight) (front (take 8 (drop (40 * i) s)) ∙ name-there s i there)
