@@ -56,11 +56,14 @@ fn better(window: Pieces, table: &[u8], i: usize, from: u64, target: u64, best: 
 // The first of the targets of a piece to which one of the records that a walk still has to come takes an address below
 // the window's end. A record costs one load and one comparison if its target is not below what is found already.
 pub fn first_shared(window: Pieces, piece: Piece) -> Option<Shared>
-    requires there { is_some window.table ≡ true }
-    requires some { 0 < piece.size }
+    requires { 0 < piece.size }
     ensures { told_shared result
         ≡ first_shared (pieces 0 window.entry.b (rest (bytes_of window.entry.table) window.entry.next)) piece.to piece.size }
 {
+    // An absent table has no record to share with.
+    let Some(_) = window.table else {
+        return None;
+    };
     let table = bytes_or_none(window.table);
     let from = piece.to;
     let end = from + piece.size;

@@ -1,7 +1,6 @@
-use mathlib.Core.Path.{refl, sym, ap, ◌∙◌}
+use mathlib.Core.Path.{refl, sym, ◌∙◌}
 use native.Mathlib.Omega.{arith}
 use mathlib.Core.Option.{none, some}
-use Rattle.std.specs.Option.{is_some}
 use Rattle.lent.specs.Words.{or_else}
 use Rattle.omap.specs.Ahead.{ahead}
 use Rattle.clash.specs.Clash.{Pair}
@@ -42,8 +41,5 @@ returns c = sym (c.loop-piece.invariant.same ∙ no-clash (ahead c.loop-piece.la
 pub source_of-first-requires-clause-inside : goal.source_of-first-requires-clause-inside
 source_of-first-requires-clause-inside c = let found = c.in-Some.ensures.steps.1.found in omega (arith, found.inside, found.short)
 
-pub first_shared-requires-clause-there : goal.first_shared-requires-clause-there
-first_shared-requires-clause-there c = ap is_some c.in-Some.ensures.steps.1.of ∙ c.loop-piece.invariant.present
-
-pub first_shared-requires-clause-some : goal.first_shared-requires-clause-some
-first_shared-requires-clause-some c = c.in-Some.ensures.steps.1.found.some-of-it
+pub first_shared-requires : goal.first_shared-requires
+first_shared-requires c = c.in-Some.ensures.steps.1.found.some-of-it
