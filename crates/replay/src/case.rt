@@ -1,4 +1,5 @@
 // Reading a case: what is asked, and then the answer in it beside ours.
+ghost use Rattle.std.specs.Prelude.{◌≡◌, ◌&&◌, IfOk};
 
 // Told of a case that breaks the format.
 #[derive(Clone, Copy, Debug)]
@@ -34,17 +35,12 @@ impl<'s> Case<'s> {
         Ok(mark == 1)
     }
 
-    // The next table as the face takes it, by C's interface: whether it is present, and its bytes. Those beside the mark
-    // of an absent one are lent as well, since the face must not read them.
+    // The next table as the face takes it, by C's interface: whether it is present, and its bytes.
     pub(crate) fn table(&mut self) -> Result<(bool, &'s [u8]), Broken> {
         let mark: u8 = self.number()?;
         let length: u16 = self.number()?;
         let bytes = self.rest.split_off(..usize::from(length)).ok_or(Broken)?;
-        match mark {
-            0 => Ok((false, bytes)),
-            1 => Ok((true, bytes)),
-            _ => Err(Broken),
-        }
+        marked(mark, bytes)
     }
 
     // The next table, for a question that is asked only of a present one.
@@ -77,7 +73,9 @@ impl<'s> Case<'s> {
     }
 
     // Agrees only where another reading of the same case does.
-    pub(crate) fn agree_with(&mut self, other: Case<'_>) {
+    pub(crate) fn agree_with(&mut self, other: Case<'_>)
+        ensures { self.new ≡ record { rest = self.old.rest; agrees = self.old.agrees && other.entry.agrees } }
+    {
         self.agrees &= other.agrees;
     }
 
@@ -120,6 +118,18 @@ impl Number for usize {
     fn read(case: &mut Case<'_>) -> Result<usize, Broken> {
         let place = u32::read(case)?;
         Ok(place as usize)
+    }
+}
+
+// A table behind its mark. What is lent beside the mark of an absent one is lent as it stands, since the face must not
+// read it.
+fn marked(mark: u8, bytes: &[u8]) -> Result<(bool, &[u8]), Broken>
+    ensures { IfOk result (λ table. table.1.now ≡ bytes.now) }
+{
+    match mark {
+        0 => Ok((false, bytes)),
+        1 => Ok((true, bytes)),
+        _ => Err(Broken),
     }
 }
 
