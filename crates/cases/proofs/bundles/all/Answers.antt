@@ -2,7 +2,7 @@ use mathlib.Core.Path.{refl}
 use Rattle.cases.proofs.Opened.{bundles}
 use Rattle.cases.proofs.bundles.all.Goals as goal
 
--- The last cases of each kind by their names, so that the check misses a case that went.
+-- The last cases of each kind by their names, which a case that is taken out would take along.
 pub refuses-requires-4 : goal.refuses-requires-4
 unfolding bundles
 refuses-requires-4 c = refl
