@@ -1,5 +1,5 @@
 // The lent list of records. As pairs, they are what a window's output holds: `pairs-of-list` of
-// proofs/Listed.antt. So the reader's `drain` is asked too, into two places for each record.
+// proofs/Listed.antt. So the reader's `drain` is asked the same, into two places for each record.
 use crate::case::{Broken, Case};
 use crate::windows::{MARK, MOST, compare_pieces};
 use gillacorn::lists::gillacorn_list;
@@ -10,6 +10,26 @@ use ranges::reader::drain;
 use std::array;
 
 pub(crate) fn list(case: &mut Case<'_>) -> Result<(), Broken> {
+    let mut by_reader = *case;
+    drained(&mut by_reader)?;
+    listed(case)?;
+    case.agree_with(by_reader);
+    Ok(())
+}
+
+fn drained(case: &mut Case<'_>) -> Result<(), Broken> {
+    let (present, table) = case.table()?;
+    let a = case.number()?;
+    let b = case.number()?;
+    let records: u16 = case.number()?;
+    let mut room: [u32; MOST] = array::from_fn(|place| MARK + place as u32);
+    let out = room.get_mut(..2 * usize::from(records)).ok_or(Broken)?;
+    let ours = drain(if_present(present, table), a, b, out);
+    compare_pieces(case, pieces_answer(ours))?;
+    case.compare_all(out)
+}
+
+fn listed(case: &mut Case<'_>) -> Result<(), Broken> {
     let (present, table) = case.table()?;
     let a = case.number()?;
     let b = case.number()?;
@@ -22,13 +42,6 @@ pub(crate) fn list(case: &mut Case<'_>) -> Result<(), Broken> {
         }
     });
     let list = room.get_mut(..usize::from(records)).ok_or(Broken)?;
-    let mut by_reader = *case;
-    let mut places: [u32; MOST] = array::from_fn(|place| MARK + place as u32);
-    let pairs = places.get_mut(..2 * usize::from(records)).ok_or(Broken)?;
-    let drained = drain(if_present(present, table), a, b, pairs);
-    compare_pieces(&mut by_reader, pieces_answer(drained))?;
-    by_reader.compare_all(pairs)?;
-    case.agree_with(by_reader);
     let ours = gillacorn_list(present, table, a, b, list);
     compare_pieces(case, ours)?;
     for piece in list.iter() {
